@@ -1,0 +1,57 @@
+-- What a history says: the order of its changes, what each client had been told, and the state after some entries.
+use Rattle.std.specs.Prelude.{ℕ, Bool, false, ◌&&◌, ◌==◌, List, [], ◌∷◌, length, take, if◌then◌else◌, count_by, filter, flat_map, position, unwrap_or, Option, None, Some}
+use Rattle.std.specs.List.{list_any}
+use Rattle.snap_ids.specs.declared.id.Ino.{Ino}
+use Rattle.snap_ids.specs.declared.id.SnapId.{SnapId}
+use Rattle.plain_types.specs.declared.change.Change.{Change}
+use Rattle.plain_types.specs.declared.change.Change.TheVariants.{Mkdir, Mksnap}
+use Rattle.plain_types.specs.declared.change.Effect.{Effect}
+use Rattle.plain_types.specs.declared.history.Event.{Event}
+use Rattle.plain_types.specs.declared.history.Replied.{Replied}
+use Rattle.plain_tree.specs.State.{State}
+use Rattle.plain_tree.specs.Change.{state_after}
+
+-- the effects of all events, in the order of the events
+abbrev pub effects : List Event → List Effect
+effects history = flat_map (λ event. event.effects) history
+
+-- the replies of all events, in the order of the events
+abbrev pub replies : List Event → List Replied
+replies history = flat_map (λ event. event.replies) history
+
+-- the journal's entries: each change of the server is one, and clients change nothing by themselves yet
+abbrev pub journal : List Event → List Effect
+journal history = effects history
+
+-- the plain state after the first entries of the journal
+abbrev pub at_entry : List Event → ℕ → State
+at_entry history entries = state_after (take entries (journal history))
+
+abbrev pub is_of : ℕ → Effect → Bool
+is_of client effect = effect.client == client
+
+abbrev pub same_snap : SnapId → SnapId → Bool
+same_snap s t = s.0 == t.0
+
+-- the change makes this snapshot
+abbrev pub makes : SnapId → Change → Bool
+makes s (Mkdir dir name ino) = false
+makes s (Mksnap id dir name) = same_snap id s
+
+abbrev pub is_making : SnapId → Effect → Bool
+is_making s effect = makes s effect.change
+
+-- the effects before the one that makes a snapshot; all of them where none does
+abbrev pub before_snap : SnapId → List Effect → List Effect
+before_snap s [] = []
+before_snap s (effect ∷ effects) = if is_making s effect then [] else effect ∷ before_snap s effects
+
+-- how many of a client's changes were answered to it before an event
+abbrev pub told : List Event → ℕ → ℕ → ℕ
+told history client event =
+    count_by (λ reply. reply.client == client && reply.changed) (replies (take event history))
+
+-- the event at which a client hears of a snapshot, the end where it never does: while one server answers
+-- each line at once, that is the event that makes the snapshot
+abbrev pub mark : List Event → ℕ → SnapId → ℕ
+mark history client s = unwrap_or (position (λ event. list_any (is_making s) event.effects) history) (length history)
