@@ -6,7 +6,7 @@ use Rattle.snap_ids.specs.Name.{is_new, is_new_snap}
 use Rattle.plain_types.specs.declared.change.Change.{Change}
 use Rattle.plain_types.specs.declared.change.Change.TheVariants.{Mkdir, Mksnap}
 use Rattle.plain_types.specs.declared.change.Effect.{Effect}
-use Rattle.plain_tree.specs.State.{State, Entry, Inode, Snapshot, start, new_directory, same_ino, has_inode, lookup, add}
+use Rattle.plain_tree.specs.State.{State, Snapshot, start, new_directory, same_ino, has_inode, lookup, add}
 
 -- a live snapshot of the directory has the name
 abbrev pub has_snap : List Snapshot → Ino → List ℕ → Bool

@@ -1,7 +1,6 @@
 -- What a history says: the order of its changes, what each client had been told, and the state after some entries.
-use Rattle.std.specs.Prelude.{ℕ, Bool, false, ◌&&◌, ◌==◌, List, [], ◌∷◌, length, take, if◌then◌else◌, count_by, filter, flat_map, position, unwrap_or, Option, None, Some}
+use Rattle.std.specs.Prelude.{ℕ, ◌+◌, Bool, false, ◌&&◌, ◌==◌, List, [], ◌∷◌, take, if◌then◌else◌, count_by, flat_map}
 use Rattle.std.specs.List.{list_any}
-use Rattle.snap_ids.specs.declared.id.Ino.{Ino}
 use Rattle.snap_ids.specs.declared.id.SnapId.{SnapId}
 use Rattle.plain_types.specs.declared.change.Change.{Change}
 use Rattle.plain_types.specs.declared.change.Change.TheVariants.{Mkdir, Mksnap}
@@ -51,7 +50,8 @@ abbrev pub told : List Event → ℕ → ℕ → ℕ
 told history client event =
     count_by (λ reply. reply.client == client && reply.changed) (replies (take event history))
 
--- the event at which a client hears of a snapshot, the end where it never does: while one server answers
--- each line at once, that is the event that makes the snapshot
+-- The event at which a client hears of a snapshot, the end where it never does. While one server answers each
+-- line at once, that is the event that makes the snapshot.
 abbrev pub mark : List Event → ℕ → SnapId → ℕ
-mark history client s = unwrap_or (position (λ event. list_any (is_making s) event.effects) history) (length history)
+mark [] client s = 0
+mark (event ∷ history) client s = if list_any (is_making s) event.effects then 0 else mark history client s + 1

@@ -1,5 +1,5 @@
 -- Which histories are legal for a script: each line's reply is the plain tree's.
-use Rattle.std.specs.Prelude.{◌≡◌, ℕ, ◌+◌, Bool, true, false, ◌&&◌, is_some, List, [], ◌∷◌, length, if◌then◌else◌, IsTrue, bytes_eq, find, Option, None, Some}
+use Rattle.std.specs.Prelude.{◌≡◌, ℕ, ◌+◌, Bool, true, false, ◌&&◌, is_some, List, [], ◌∷◌, length, bytes_eq, find, Option, None, Some}
 use Rattle.snap_ids.specs.declared.id.Ino.{Ino}
 use Rattle.snap_ids.specs.declared.id.SnapId.{SnapId}
 use Rattle.snap_ids.specs.declared.id.TheConstants.{ROOT}
@@ -10,6 +10,7 @@ use Rattle.plain_types.specs.declared.answer.Refusal.TheVariants.{NoSnap}
 use Rattle.plain_types.specs.declared.change.Change.{Change}
 use Rattle.plain_types.specs.declared.change.Effect.{Effect}
 use Rattle.plain_types.specs.declared.history.Event.{Event}
+use Rattle.plain_types.specs.declared.history.Replied.{Replied}
 use Rattle.plain_types.specs.declared.history.Step.TheVariants.{Op}
 use Rattle.plain_types.specs.declared.script.Line.{Line}
 use Rattle.plain_types.specs.declared.script.Line.TheVariants as line
@@ -23,66 +24,98 @@ abbrev pub snap_named : List Snapshot → Ino → List ℕ → Option Snapshot
 snap_named snaps dir name = find (λ snap. snap.live && same_ino snap.root dir && bytes_eq snap.name name) snaps
 
 -- the answer in a snapshot's tree, from the snapshot's directory; none has the name where there is no snapshot
-abbrev pub in_tree : List Event → Ino → List (List ℕ) → Option Snapshot → Decision
-in_tree history dir path None = Say (Refused NoSnap)
-in_tree history dir path (Some snap) = list_from (tree history snap.id) dir path
+abbrev pub in_tree : (SnapId → State) → Ino → List (List ℕ) → Option Snapshot → Decision
+in_tree trees dir path None = Say (Refused NoSnap)
+in_tree trees dir path (Some snap) = list_from (trees snap.id) dir path
 
--- The answer under `.snap` after so many entries: the directory and the snapshot's name are looked up in the
--- live tree, and the rest of the path in the one tree that the snapshot has in the whole history.
-abbrev pub snap_answer : List Event → ℕ → List (List ℕ) → List ℕ → List (List ℕ) → Answer
-snap_answer history entries dir name path =
-    let live = at_entry history entries in
-    answer_of (at_end (walk live.entries ROOT dir) (λ found. in_tree history found path (snap_named live.snaps found name)))
+-- The answer to `ls` under `.snap`: the directory and the snapshot's name are looked up in the live tree, and the
+-- rest of the path in the snapshot's tree.
+abbrev pub snap_answer : State → (SnapId → State) → List (List ℕ) → List ℕ → List (List ℕ) → Answer
+snap_answer live trees dir name path =
+    answer_of (at_end (walk live.entries ROOT dir) (λ found. in_tree trees found path (snap_named live.snaps found name)))
 
--- the live answer after so many entries; a snapshot that is made gets the next id
-abbrev pub live_answer : List Event → ℕ → ℕ → Line → Answer
-live_answer history client entries line =
-    let live = at_entry history entries in plain live client (next_snap live) line
+-- the answer to any other line: the plain one; a snapshot that it makes gets the next id
+abbrev pub live_answer : State → ℕ → Line → Answer
+live_answer live client line = plain live client (next_snap live) line
 
--- what a line is answered: `ls` of what stands under `.snap` by the snapshot, everything else by what is live
-abbrev pub list_answer : List Event → ℕ → ℕ → List (List ℕ) → Place → Answer
-list_answer history client entries path (InSnap dir name below) = snap_answer history entries dir name below
-list_answer history client entries path (Live live) = live_answer history client entries (line.List path)
-list_answer history client entries path (Snaps dir) = live_answer history client entries (line.List path)
+abbrev pub list_answer : State → (SnapId → State) → ℕ → List (List ℕ) → Place → Answer
+list_answer live trees client path (InSnap dir name below) = snap_answer live trees dir name below
+list_answer live trees client path (Live there) = live_answer live client (line.List path)
+list_answer live trees client path (Snaps dir) = live_answer live client (line.List path)
 
-abbrev pub reply_to : List Event → ℕ → ℕ → Line → Answer
-reply_to history client entries (line.List path) = list_answer history client entries path (place_of path)
-reply_to history client entries (line.Mkdir path) = live_answer history client entries (line.Mkdir path)
+-- what a line is answered
+abbrev pub answer_to : State → (SnapId → State) → ℕ → Line → Answer
+answer_to live trees client (line.List path) = list_answer live trees client path (place_of path)
+answer_to live trees client (line.Mkdir path) = live_answer live client (line.Mkdir path)
 
--- the change that a line makes after so many entries
-abbrev pub change_by : List Event → ℕ → Line → Option Change
-change_by history entries line = let live = at_entry history entries in change_of (decide live (next_snap live) line)
+-- the change that a line makes
+abbrev pub change_by : State → Line → Option Change
+change_by live line = change_of (decide live (next_snap live) line)
 
--- a change that took effect is the journal's next entry
+-- a change that took effect after so many entries is the journal's next one
 abbrev pub effects_of : ℕ → ℕ → Option Change → List Effect
 effects_of client entries None = []
 effects_of client entries (Some change) = record { client = client; entry = entries + 1; change = change } ∷ []
 
--- The event of a client's line, its number-th, after so many entries: the client goes on by one line, which
--- makes its change and is answered at once.
-pub record IsServed (history : List Event) (entries number client : ℕ) (line : Line) (event : Event) : Type 0 where
+-- The event of a client's line, its number-th, after so many entries, with what is live then and the trees of the
+-- snapshots: the client goes on by one line, which makes its change and is answered at once.
+pub record IsServed (live : State) (trees : SnapId → State) (entries number client : ℕ) (line : Line) (event : Event) : Type 0 where
   pub node : event.node ≡ client
   pub step : event.step ≡ Op client
   pub taken : event.taken ≡ None
   pub sent : event.sent ≡ []
-  pub effects : event.effects ≡ effects_of client entries (change_by history entries line)
+  pub effects : event.effects ≡ effects_of client entries (change_by live line)
   pub replies : event.replies ≡ record {
     client = client;
     line = number;
-    changed = is_some (change_by history entries line);
+    changed = is_some (change_by live line);
     entry = entries;
-    answer = reply_to history client entries line;
+    answer = answer_to live trees client line;
   } ∷ []
 
--- these events serve these lines, one after another, from so many entries and lines on
+-- These events serve these lines, one after another, from so many entries and lines on. What is live is the plain
+-- state after the entries so far; a snapshot has one tree, that of its cut in the whole history.
 abbrev pub Serves : List Event → ℕ → ℕ → List (ℕ × Line) → List Event → Type 0
 Serves history entries number [] [] = Unit {0}
 Serves history entries number (line ∷ lines) (event ∷ events) =
-    IsServed history entries number line.0 line.1 event
+    IsServed (at_entry history entries) (tree history) entries number line.0 line.1 event
     × Serves history (entries + length event.effects) (number + 1) lines events
 Serves history entries number [] (event ∷ events) = ⊥
 Serves history entries number (line ∷ lines) [] = ⊥
 
--- the history serves the script's lines in their order, and each reply is the plain tree's
+-- the history serves the script's lines in their order, each with the plain tree's answer
 abbrev pub Legal : List Event → List (ℕ × Line) → Type 0
 Legal history lines = Serves history 0 1 lines history
+
+-- the reply to `ls` under `.snap` is the answer in the one tree of that snapshot
+abbrev pub IsSnapReply : List Event → List (List ℕ) → Place → Replied → Type 0
+IsSnapReply history path (InSnap dir name below) reply =
+    reply.answer ≡ snap_answer (at_entry history reply.entry) (tree history) dir name below
+IsSnapReply history path (Live there) reply = Unit {0}
+IsSnapReply history path (Snaps dir) reply = Unit {0}
+
+abbrev pub IsFromSnap : List Event → Line → Replied → Type 0
+IsFromSnap history (line.List path) reply = IsSnapReply history path (place_of path) reply
+IsFromSnap history (line.Mkdir path) reply = Unit {0}
+
+-- the line asks for what stands under `.snap`
+abbrev pub is_in_snap : Place → Bool
+is_in_snap (InSnap dir name below) = true
+is_in_snap (Live there) = false
+is_in_snap (Snaps dir) = false
+
+abbrev pub lists_snap : Line → Bool
+lists_snap (line.List path) = is_in_snap (place_of path)
+lists_snap (line.Mkdir path) = false
+
+-- the reply to any other line is the live answer
+abbrev pub IsFromLive : List Event → Line → Replied → Type 0
+IsFromLive history line reply =
+    lists_snap line ≡ false → reply.answer ≡ live_answer (at_entry history reply.entry) reply.client line
+
+-- each line has one reply, in the order of the lines, and it is as P says
+abbrev pub EachReply : (Line → Replied → Type 0) → List (ℕ × Line) → List Replied → Type 0
+EachReply P [] [] = Unit {0}
+EachReply P (line ∷ lines) (reply ∷ replies) = P line.1 reply × EachReply P lines replies
+EachReply P [] (reply ∷ replies) = ⊥
+EachReply P (line ∷ lines) [] = ⊥

@@ -1,6 +1,8 @@
-pub mod State
 pub mod Change
-pub mod Line
-pub mod History
 pub mod Cut
+pub mod Direct
+pub mod Example
+pub mod History
 pub mod Legal
+pub mod Line
+pub mod State

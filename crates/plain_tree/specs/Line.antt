@@ -1,5 +1,5 @@
 -- What a line of a client asks, and the plain answer, with the refusals in their order.
-use Rattle.std.specs.Prelude.{ℕ, ◌-◌, Bool, true, false, not, List, [], ◌∷◌, length, take, if◌then◌else◌, slice_get, is_some, Option, None, Some, Result, Ok, Err}
+use Rattle.std.specs.Prelude.{ℕ, ◌-◌, not, List, [], ◌∷◌, length, take, if◌then◌else◌, slice_get, is_some, Option, None, Some, Result, Ok, Err}
 use Rattle.snap_ids.specs.declared.id.Ino.{Ino}
 use Rattle.snap_ids.specs.declared.id.SnapId.{SnapId}
 use Rattle.snap_ids.specs.declared.id.TheConstants.{ROOT}

@@ -1,0 +1,28 @@
+-- One server that answers each line at once knows the effects so far, and needs no more for its replies.
+use Rattle.std.specs.Prelude.{◌≡◌, ℕ, ◌+◌, List, [], ◌∷◌, ◌++◌, length}
+use Rattle.snap_ids.specs.declared.id.SnapId.{SnapId}
+use Rattle.plain_types.specs.declared.change.Effect.{Effect}
+use Rattle.plain_types.specs.declared.history.Event.{Event}
+use Rattle.plain_types.specs.declared.script.Line.{Line}
+use Rattle.plain_tree.specs.State.{State}
+use Rattle.plain_tree.specs.Change.{state_after}
+use Rattle.plain_tree.specs.History.{before_snap}
+use Rattle.plain_tree.specs.Legal.{IsServed}
+
+-- the tree of a snapshot, as far as the effects so far tell: what those before it made
+abbrev pub tree_so_far : List Effect → SnapId → State
+tree_so_far done s = state_after (before_snap s done)
+
+-- these events serve these lines after these effects
+abbrev pub ServesAfter : List Effect → ℕ → List (ℕ × Line) → List Event → Type 0
+ServesAfter done number [] [] = Unit {0}
+ServesAfter done number (line ∷ lines) (event ∷ events) =
+    IsServed (state_after done) (tree_so_far done) (length done) number line.0 line.1 event
+    × ServesAfter (done ++ event.effects) (number + 1) lines events
+ServesAfter done number [] (event ∷ events) = ⊥
+ServesAfter done number (line ∷ lines) [] = ⊥
+
+-- all lines are those of client 1
+abbrev pub OfOneClient : List (ℕ × Line) → Type 0
+OfOneClient [] = Unit {0}
+OfOneClient (line ∷ lines) = (line.0 ≡ 1) × OfOneClient lines
