@@ -1,0 +1,4 @@
+pub mod Direct
+mod Effects
+mod Kept
+pub mod Replies

@@ -1,0 +1,90 @@
+-- What serves each line after the effects so far is legal in the whole history.
+use Rattle.std.proofs.Common.{◌≡◌, ℕ, ◌+◌, List, [], ◌∷◌, ◌++◌, length, take, true, Option, None, Some, Result, Ok, Err, refl, sym, ap, ◌∙◌, subst, length-append, append_assoc}
+use Rattle.std.specs.Prelude.{is_some}
+use Rattle.std.proofs.Math.Seq.{take-append_seam}
+use Rattle.snap_ids.specs.declared.id.Ino.{Ino}
+use Rattle.snap_ids.specs.declared.id.SnapId.{SnapId}
+use Rattle.snap_ids.specs.Path.{Place, Live, Snaps, InSnap, place_of}
+use Rattle.plain_types.specs.declared.answer.Answer.{Answer}
+use Rattle.plain_types.specs.declared.answer.Refusal.{Refusal}
+use Rattle.plain_types.specs.declared.change.Effect.{Effect}
+use Rattle.plain_types.specs.declared.history.Event.{Event}
+use Rattle.plain_types.specs.declared.script.Line.{Line}
+use Rattle.plain_types.specs.declared.script.Line.TheVariants as line
+use Rattle.plain_tree.specs.State.{State, Snapshot, walk}
+use Rattle.plain_tree.specs.Change.{state_after}
+use Rattle.plain_tree.specs.Line.{at_end, answer_of}
+use Rattle.plain_tree.specs.History.{effects, at_entry, before_snap}
+use Rattle.plain_tree.specs.Cut.{tree}
+use Rattle.plain_tree.specs.Legal.{IsServed, Serves, Legal, change_by, answer_to, list_answer, in_tree, snap_named}
+use Rattle.plain_tree.specs.Direct.{ServesAfter, OfOneClient, tree_so_far}
+use Rattle.plain_tree.proofs.Effects.{AllSingle, single_from_served}
+use Rattle.plain_tree.proofs.Kept.{tree_is, before_snap-append, made, all_made, found_made}
+
+-- two ways to see the trees of snapshots agree on each snapshot of the state
+abbrev AgreeOn : State → (SnapId → State) → (SnapId → State) → Type 0
+AgreeOn live trees others = (dir : Ino) (name : List ℕ) (snap : Snapshot) → snap_named live.snaps dir name ≡ Some snap → trees snap.id ≡ others snap.id
+
+in_tree_agrees : (trees others : SnapId → State) (dir : Ino) (path : List (List ℕ)) (found : Option Snapshot) → ((snap : Snapshot) → found ≡ Some snap → trees snap.id ≡ others snap.id) → in_tree trees dir path found ≡ in_tree others dir path found
+in_tree_agrees trees others dir path None agree = refl
+in_tree_agrees trees others dir path (Some snap) agree = rw (agree snap refl) refl
+
+-- then the answers agree
+answer_agrees : (live : State) (trees others : SnapId → State) (client : ℕ) (line : Line) → AgreeOn live trees others → answer_to live trees client line ≡ answer_to live others client line
+answer_agrees live trees others client (line.Mkdir path) agree = refl
+answer_agrees live trees others client (line.List path) agree = by_place (place_of path)
+  where
+    by_walk : (name : List ℕ) (below : List (List ℕ)) (end : Result Ino Refusal) → at_end end (λ found. in_tree trees found below (snap_named live.snaps found name)) ≡ at_end end (λ found. in_tree others found below (snap_named live.snaps found name))
+    by_walk name below (Ok dir) = in_tree_agrees trees others dir below (snap_named live.snaps dir name) (agree dir name)
+    by_walk name below (Err refusal) = refl
+
+    by_place : (place : Place) → list_answer live trees client path place ≡ list_answer live others client path place
+    by_place (InSnap dir name below) = ap answer_of (by_walk name below (walk live.entries _ dir))
+    by_place (Live there) = refl
+    by_place (Snaps dir) = refl
+
+-- a line that is served with some trees is served with others that agree
+served_with : {live : State} {trees others : SnapId → State} {entries number client : ℕ} {line : Line} {event : Event} → AgreeOn live trees others → IsServed live trees entries number client line event → IsServed live others entries number client line event
+served_with {live} {trees} {others} {entries} {number} {client} {line} agree served = record {
+  node = served.node;
+  step = served.step;
+  taken = served.taken;
+  sent = served.sent;
+  effects = served.effects;
+  replies = served.replies ∙ ap (λ (a : Answer). record { client = client; line = number; changed = is_some (change_by live line); entry = entries; answer = a } ∷ []) (answer_agrees live trees others client line agree);
+}
+
+serves : (history : List Event) → AllSingle history → (done : List Effect) (number : ℕ) (lines : List (ℕ × Line)) (events : List Event) → effects history ≡ done ++ effects events → OfOneClient lines → ServesAfter done number lines events → Serves history (length done) number lines events
+serves history all done number [] [] more of_one after = tt
+serves history all done number [] (event ∷ events) more of_one after = after
+serves history all done number (line ∷ lines) [] more of_one after = after
+serves history all done number (line ∷ lines) (event ∷ events) more of_one after = (
+  served,
+  rw (← length-append done event.effects) (serves history all (done ++ event.effects) (number + 1) lines events (more ∙ sym (append_assoc done event.effects (effects events))) of_one.1 after.1),
+)
+  where
+    live : at_entry history (length done) ≡ state_after done
+    live = ap state_after (ap (λ (l : List Effect). take (length done) l) more ∙ take-append_seam done (effects (event ∷ events)))
+
+    same_tree : (snap : Snapshot) → made snap.id done ≡ true → tree_so_far done snap.id ≡ tree history snap.id
+    same_tree snap is = sym (tree_is history snap.id all ∙ ap state_after (ap (before_snap snap.id) more ∙ before_snap-append snap.id done (effects (event ∷ events)) is))
+
+    agree : AgreeOn (state_after done) (tree_so_far done) (tree history)
+    agree dir name snap found = same_tree snap (found_made done _ (state_after done).snaps snap (all_made done) found)
+
+    served : IsServed (at_entry history (length done)) (tree history) (length done) number line.0 line.1 event
+    served = rw live (served_with agree after.0)
+
+all_single : (done : List Effect) (number : ℕ) (lines : List (ℕ × Line)) (events : List Event) → OfOneClient lines → ServesAfter done number lines events → AllSingle events
+all_single done number [] [] of_one after = tt
+all_single done number [] (event ∷ events) of_one after = absurd after
+all_single done number (line ∷ lines) [] of_one after = absurd after
+all_single done number (line ∷ lines) (event ∷ events) of_one after = (
+  single_from_served (subst (λ (client : ℕ). IsServed (state_after done) (tree_so_far done) (length done) number client line.1 event) of_one.0 after.0),
+  all_single (done ++ event.effects) (number + 1) lines events of_one.1 after.1,
+)
+
+-- the law
+pub direct_is_legal : (lines : List (ℕ × Line)) (history : List Event) → OfOneClient lines → ServesAfter [] 1 lines history → Legal history lines
+direct_is_legal lines history of_one after =
+    serves history (all_single [] 1 lines history of_one after) [] 1 lines history refl of_one after
