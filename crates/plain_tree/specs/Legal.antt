@@ -8,6 +8,8 @@ use Rattle.plain_types.specs.declared.answer.Answer.{Answer}
 use Rattle.plain_types.specs.declared.answer.Answer.TheVariants.{Refused}
 use Rattle.plain_types.specs.declared.answer.Refusal.TheVariants.{NoSnap}
 use Rattle.plain_types.specs.declared.change.Change.{Change}
+use Rattle.plain_types.specs.declared.decision.Decision.{Decision}
+use Rattle.plain_types.specs.declared.decision.Decision.TheVariants.{Say}
 use Rattle.plain_types.specs.declared.change.Effect.{Effect}
 use Rattle.plain_types.specs.declared.history.Event.{Event}
 use Rattle.plain_types.specs.declared.history.Replied.{Replied}
@@ -15,7 +17,7 @@ use Rattle.plain_types.specs.declared.history.Step.TheVariants.{Op}
 use Rattle.plain_types.specs.declared.script.Line.{Line}
 use Rattle.plain_types.specs.declared.script.Line.TheVariants as line
 use Rattle.plain_tree.specs.State.{State, Snapshot, same_ino, next_snap, walk}
-use Rattle.plain_tree.specs.Line.{Decision, Say, at_end, list_from, decide, answer_of, change_of, plain}
+use Rattle.plain_tree.specs.Line.{at_end, list_from, decide, answer_of, change_of, plain}
 use Rattle.plain_tree.specs.History.{at_entry}
 use Rattle.plain_tree.specs.Cut.{tree}
 

@@ -11,15 +11,12 @@ use Rattle.plain_types.specs.declared.answer.Refusal.{Refusal}
 use Rattle.plain_types.specs.declared.answer.Refusal.TheVariants.{BadName, Exists, ReadOnly}
 use Rattle.plain_types.specs.declared.change.Change.{Change}
 use Rattle.plain_types.specs.declared.change.Change.TheVariants as change
+use Rattle.plain_types.specs.declared.decision.Decision.{Decision}
+use Rattle.plain_types.specs.declared.decision.Decision.TheVariants.{Put, Say}
 use Rattle.plain_types.specs.declared.script.Line.{Line}
 use Rattle.plain_types.specs.declared.script.Line.TheVariants as line
 use Rattle.plain_tree.specs.State.{State, kind_in, lookup, walk, listing, next_ino}
 use Rattle.plain_tree.specs.Change.{has_snap}
-
--- what a line comes to: a change, or an answer alone
-pub data Decision : Type 0 where
-  Put : Change → Decision
-  Say : Answer → Decision
 
 -- what is done at the inode where a walk ends; a walk that fails is refused
 abbrev pub at_end : Result Ino Refusal → (Ino → Decision) → Decision

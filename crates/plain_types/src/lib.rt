@@ -3,10 +3,12 @@
 
 mod answer;
 mod change;
+mod decision;
 mod history;
 mod script;
 
 pub use answer::{Answer, Refusal};
 pub use change::{Change, Effect, Effects};
+pub use decision::Decision;
 pub use history::{Event, History, Message, Replied, Replies, Sending, Sent, Step};
 pub use script::{Line, Lines, Planned, Restarts, Schedule, Script};

@@ -1,0 +1,4 @@
+//! The program's one call: a script's bytes in, the bytes of its replies out.
+#![tactic(auto)]
+
+mod text;
