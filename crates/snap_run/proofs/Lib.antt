@@ -1,1 +1,4 @@
+mod Plain
 mod Ranges
+mod Stands
+mod Views

@@ -1,5 +1,5 @@
 -- The text of a run: a line for each reply, and `done`.
-use Rattle.std.specs.Prelude.{ℕ, ◌==◌, List, [], ◌∷◌, ◌++◌, codes, decimal, filter, flat_map}
+use Rattle.std.specs.Prelude.{ℕ, ◌==◌, List, [], ◌++◌, codes, decimal, filter, flat_map}
 use Rattle.std.specs.List.{range_with_len}
 use Rattle.snap_ids.specs.declared.entries.Kind.{Kind}
 use Rattle.snap_ids.specs.declared.entries.Kind.TheVariants.{Dir, File}
