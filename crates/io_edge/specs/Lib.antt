@@ -1,0 +1,4 @@
+pub mod Calls
+pub mod Drain
+pub mod Feed
+pub mod Outside
