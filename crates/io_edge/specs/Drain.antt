@@ -28,5 +28,5 @@ abbrev pub drain_after_write : List ℕ → Drain → Drain
 drain_after_write bytes drain = record drain {
   written = drain.written ++ bytes;
   room = drain.room - length bytes;
-  calls = next_count drain.calls
+  calls = next_count drain.calls;
 }

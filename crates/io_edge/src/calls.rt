@@ -2,10 +2,9 @@
 ghost use Rattle.std.specs.Prelude.{◌≡◌, IfOk};
 ghost use Rattle.io_edge.specs.Calls.{next_count, is_next_listed};
 
+use crate::traits::Failed;
 use snap_ids::NoMemory;
 use std::alloc::Global;
-
-use crate::traits::Failed;
 
 // Which calls are to fail, counted from 1, how many were made, and how many failed. The counts stop at
 // the last u64.

@@ -9,3 +9,6 @@ mod traits;
 pub use memory::{MemSink, MemSource};
 pub use std_forms::{StdSink, StdSource};
 pub use traits::{Failed, Sink, Source};
+
+#[cfg(test)]
+mod tests;

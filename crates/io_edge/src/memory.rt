@@ -5,12 +5,11 @@ ghost use Rattle.io_edge.specs.Outside.{Rises, AppendsSome};
 ghost use Rattle.io_edge.specs.Feed.{is_read_refused, feed_after_failure, feed_after_read};
 ghost use Rattle.io_edge.specs.Drain.{is_write_refused, drain_after_failure, drain_after_write};
 
+use crate::calls::FailingCalls;
+use crate::traits::{Failed, Sink, Source};
 use snap_ids::NoMemory;
 use std::alloc::Global;
 use std::marker::Model;
-
-use crate::calls::FailingCalls;
-use crate::traits::{Failed, Sink, Source};
 
 /// A source of bytes in memory. Contracts see the bytes that are left, and its calls.
 #[derive(Debug, Drop)]

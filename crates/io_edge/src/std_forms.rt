@@ -1,9 +1,11 @@
 // Sources and sinks over std's readers and writers.
-ghost use Rattle.std.specs.Prelude.{◌≡◌};
-
-use std::io::{Read, Write};
+ghost use Rattle.std.specs.Prelude.{◌≡◌, ◌<◌, ◌≤◌, [], length, take, IfOk, OnOk, OnErr};
+ghost use Rattle.std.specs.Io.KnownBytes.{ReadConsumes, Appends, Keeps};
+ghost use Rattle.io_edge.specs.Outside.{Rises, AppendsSome};
+ghost use Rattle.io_edge.specs.Calls.{next_count};
 
 use crate::traits::{Failed, Sink, Source};
+use std::io::{Read, Write};
 
 /// A source over a reader of std. It counts the reader's errors, up to the last u64.
 #[derive(Drop)]
@@ -15,7 +17,8 @@ pub struct StdSource<I> {
 impl<I: Read + Drop> StdSource<I> {
     /// A source of what the reader gives.
     pub fn new(reader: I) -> StdSource<I>
-        ensures { result ≡ record { reader = reader; faults = 0 } }
+        ensures left { ⟦<StdSource<I> as Source>⟧.left result ≡ I.remaining reader }
+        ensures faults { ⟦<StdSource<I> as Source>⟧.faults result ≡ 0 }
     {
         StdSource { reader, faults: 0 }
     }
@@ -26,7 +29,17 @@ impl<I: Read + Drop> Source for StdSource<I> {
 
     ghost faults = { λ s. s.faults };
 
-    fn read(&mut self, room: &mut [u8]) -> Result<usize, Failed> {
+    /// Passes a read on. Each error of the reader, and nothing else, is counted and answered as a failure.
+    fn read(&mut self, room: &mut [u8]) -> Result<usize, Failed>
+        ensures bound { IfOk result (λ n. n ≤ length room.new) }
+        ensures bytes { ReadConsumes (I.remaining self.old.reader) (I.remaining self.new.reader) result room.new }
+        ensures steady { self.old.faults ≤ self.new.faults }
+        ensures cause { OnErr result (Rises self.old.faults self.new.faults) }
+
+        // The count rises by one at each failure, and never else.
+        ensures ok { OnOk result (self.new.faults ≡ self.old.faults) }
+        ensures err { OnErr result (self.new.faults ≡ next_count self.old.faults) }
+    {
         match self.reader.read(room) {
             Ok(n) => Ok(n),
             Err(_) => {
@@ -48,7 +61,8 @@ pub struct StdSink<O> {
 impl<O: Write + Drop> StdSink<O> {
     /// A sink into the writer.
     pub fn new(writer: O) -> StdSink<O>
-        ensures { result ≡ record { writer = writer; faults = 0 } }
+        ensures written { ⟦<StdSink<O> as Sink>⟧.written result ≡ O.contents writer }
+        ensures faults { ⟦<StdSink<O> as Sink>⟧.faults result ≡ 0 }
     {
         StdSink { writer, faults: 0 }
     }
@@ -59,7 +73,23 @@ impl<O: Write + Drop> Sink for StdSink<O> {
 
     ghost faults = { λ s. s.faults };
 
-    fn write(&mut self, bytes: &[u8]) -> Result<usize, Failed> {
+    /// Passes a write on. Each error of the writer is counted and answered as a failure, and so is
+    /// that it takes none of several bytes. A failed write writes nothing.
+    fn write(&mut self, bytes: &[u8]) -> Result<usize, Failed>
+        ensures bound { IfOk result (λ n. n ≤ length bytes.now) }
+        ensures ok { IfOk result (λ n. Appends (O.contents self.old.writer) (O.contents self.new.writer) (take n bytes.now)) }
+        ensures err { OnErr result (AppendsSome (O.contents self.old.writer) (O.contents self.new.writer) bytes.now) }
+        ensures nothing { result ≡ Ok 0 → 0 < length bytes.now → Rises self.old.faults self.new.faults }
+        ensures steady { self.old.faults ≤ self.new.faults }
+        ensures cause { OnErr result (Rises self.old.faults self.new.faults) }
+
+        // The count rises by one at each failure, and never else; a write that takes none of several
+        // bytes is a failure.
+        ensures some { result ≡ Ok 0 → bytes.now ≡ [] }
+        ensures none_written { OnErr result (Keeps (O.contents self.old.writer) (O.contents self.new.writer)) }
+        ensures counted_ok { OnOk result (self.new.faults ≡ self.old.faults) }
+        ensures counted_err { OnErr result (self.new.faults ≡ next_count self.old.faults) }
+    {
         match self.writer.write(bytes) {
             Ok(n) if n > 0 || bytes.is_empty() => Ok(n),
             _ => {
