@@ -25,7 +25,12 @@ impl Model for MemSource {
 
     ghost Value = { Feed };
 
-    ghost view = { λ s. record { left = drop s.at s.bytes.items; failing = s.calls.failing.items; calls = s.calls.calls; faults = s.calls.faults } };
+    ghost view = { λ s. record {
+      left = drop s.at s.bytes.items;
+      failing = s.calls.failing.items;
+      calls = s.calls.calls;
+      faults = s.calls.faults;
+    } };
 
     ghost invariant = { λ s. s.at ≤ length s.bytes.items };
 }
@@ -33,7 +38,8 @@ impl Model for MemSource {
 impl MemSource {
     /// A source of these bytes. The calls that `failing` lists, counted from 1, are to fail.
     pub fn new(alloc: Global, bytes: &[u8], failing: &[u64]) -> Result<Self, NoMemory>
-        ensures { IfOk result (λ source. source ≡ record { left = bytes.now; failing = failing.now; calls = 0; faults = 0 }) }
+        ensures { IfOk result (λ source. source ≡
+            record { left = bytes.now; failing = failing.now; calls = 0; faults = 0 }) }
     {
         let calls = FailingCalls::new(alloc, failing)?;
         let bytes = bytes.to_vec(alloc)?;
@@ -100,7 +106,13 @@ impl Model for MemSink {
 
     ghost Value = { Drain };
 
-    ghost view = { λ s. record { written = s.written.items; room = s.room; failing = s.calls.failing.items; calls = s.calls.calls; faults = s.calls.faults } };
+    ghost view = { λ s. record {
+      written = s.written.items;
+      room = s.room;
+      failing = s.calls.failing.items;
+      calls = s.calls.calls;
+      faults = s.calls.faults;
+    } };
 
     ghost invariant = { λ s. vec_len s.written + s.room ≤ vec_capacity s.written };
 }
@@ -109,7 +121,8 @@ impl MemSink {
     /// A sink with room for so many bytes, all of it reserved here. The calls that `failing` lists,
     /// counted from 1, are to fail.
     pub fn new(alloc: Global, room: usize, failing: &[u64]) -> Result<Self, NoMemory>
-        ensures { IfOk result (λ sink. sink ≡ record { written = []; room = room; failing = failing.now; calls = 0; faults = 0 }) }
+        ensures { IfOk result (λ sink. sink ≡
+            record { written = []; room = room; failing = failing.now; calls = 0; faults = 0 }) }
     {
         let calls = FailingCalls::new(alloc, failing)?;
         let written = Vec::with_capacity(alloc, room)?;
@@ -137,8 +150,10 @@ impl Sink for MemSink {
     /// with bytes where no room is left.
     fn write(&mut self, bytes: &[u8]) -> Result<usize, Failed>
         ensures bound { IfOk result (λ n. n ≤ length bytes.now) }
-        ensures ok { IfOk result (λ n. Appends (Some self.old.written) (Some self.new.written) (take n bytes.now)) }
-        ensures err { OnErr result (AppendsSome (Some self.old.written) (Some self.new.written) bytes.now) }
+        ensures ok { IfOk result (λ n.
+            Appends (Some self.old.written) (Some self.new.written) (take n bytes.now)) }
+        ensures err { OnErr result
+            (AppendsSome (Some self.old.written) (Some self.new.written) bytes.now) }
         ensures nothing { result ≡ Ok 0 → 0 < length bytes.now → Rises self.old.faults self.new.faults }
         ensures steady { self.old.faults ≤ self.new.faults }
         ensures cause { OnErr result (Rises self.old.faults self.new.faults) }

@@ -29,10 +29,11 @@ impl<I: Read + Drop> Source for StdSource<I> {
 
     ghost faults = { λ s. s.faults };
 
-    /// Passes a read on. Each error of the reader, and nothing else, is counted and answered as a failure.
+    /// Passes a read on. Each error of the reader is counted and answered as a failure.
     fn read(&mut self, room: &mut [u8]) -> Result<usize, Failed>
         ensures bound { IfOk result (λ n. n ≤ length room.new) }
-        ensures bytes { ReadConsumes (I.remaining self.old.reader) (I.remaining self.new.reader) result room.new }
+        ensures bytes { ReadConsumes (I.remaining self.old.reader) (I.remaining self.new.reader)
+            result room.new }
         ensures steady { self.old.faults ≤ self.new.faults }
         ensures cause { OnErr result (Rises self.old.faults self.new.faults) }
 
@@ -77,8 +78,10 @@ impl<O: Write + Drop> Sink for StdSink<O> {
     /// that it takes none of several bytes. A failed write writes nothing.
     fn write(&mut self, bytes: &[u8]) -> Result<usize, Failed>
         ensures bound { IfOk result (λ n. n ≤ length bytes.now) }
-        ensures ok { IfOk result (λ n. Appends (O.contents self.old.writer) (O.contents self.new.writer) (take n bytes.now)) }
-        ensures err { OnErr result (AppendsSome (O.contents self.old.writer) (O.contents self.new.writer) bytes.now) }
+        ensures ok { IfOk result (λ n.
+            Appends (O.contents self.old.writer) (O.contents self.new.writer) (take n bytes.now)) }
+        ensures err { OnErr result
+            (AppendsSome (O.contents self.old.writer) (O.contents self.new.writer) bytes.now) }
         ensures nothing { result ≡ Ok 0 → 0 < length bytes.now → Rises self.old.faults self.new.faults }
         ensures steady { self.old.faults ≤ self.new.faults }
         ensures cause { OnErr result (Rises self.old.faults self.new.faults) }
@@ -86,7 +89,8 @@ impl<O: Write + Drop> Sink for StdSink<O> {
         // The count rises by one at each failure, and never else; a write that takes none of several
         // bytes is a failure.
         ensures some { result ≡ Ok 0 → bytes.now ≡ [] }
-        ensures none_written { OnErr result (Keeps (O.contents self.old.writer) (O.contents self.new.writer)) }
+        ensures none_written { OnErr result
+            (Keeps (O.contents self.old.writer) (O.contents self.new.writer)) }
         ensures counted_ok { OnOk result (self.new.faults ≡ self.old.faults) }
         ensures counted_err { OnErr result (self.new.faults ≡ next_count self.old.faults) }
     {

@@ -39,9 +39,11 @@ pub trait Sink {
     /// raised count.
     fn write(&mut self, bytes: &[u8]) -> Result<usize, Failed>
         ensures bound { IfOk result (λ n. n ≤ length bytes.now) }
-        ensures ok { IfOk result (λ n. Appends (written self.old) (written self.new) (take n bytes.now)) }
+        ensures ok { IfOk result (λ n.
+            Appends (written self.old) (written self.new) (take n bytes.now)) }
         ensures err { OnErr result (AppendsSome (written self.old) (written self.new) bytes.now) }
-        ensures nothing { result ≡ Ok 0 → 0 < length bytes.now → Rises (faults self.old) (faults self.new) }
+        ensures nothing { result ≡ Ok 0 → 0 < length bytes.now →
+            Rises (faults self.old) (faults self.new) }
         ensures steady { faults self.old ≤ faults self.new }
         ensures cause { OnErr result (Rises (faults self.old) (faults self.new)) };
 }
