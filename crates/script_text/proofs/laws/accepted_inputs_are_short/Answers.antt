@@ -1,0 +1,5 @@
+use Rattle.script_text.proofs.Short.{accepted_short}
+use Rattle.script_text.proofs.laws.accepted_inputs_are_short.Goals as goal
+
+pub returns : goal.returns
+returns c = accepted_short
