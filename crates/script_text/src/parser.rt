@@ -1,5 +1,5 @@
 // The script that an input spells.
-ghost use Rattle.std.specs.Prelude.{◌≡◌, ◌≢◌, ◌==◌, ◌+◌, ◌<◌, ◌≤◌, [], ◌∷◌, length, take, position, IfOk, IfErr, IfSome, MatchOption};
+ghost use Rattle.std.specs.Prelude.{◌≡◌, ◌≢◌, ◌==◌, ◌+◌, ◌^◌, ◌<◌, ◌≤◌, [], ◌∷◌, length, take, position, IfOk, IfErr, IfSome, MatchOption};
 ghost use Rattle.script_text.specs.Grammar.{lines_of, after_all, after_schedule, client_lines, after_header, script_lines, script_of, grammar};
 
 use crate::client::line_of;
@@ -82,18 +82,18 @@ fn client_lines(alloc: Global, bytes: &[u8]) -> Result<Script, ScriptError>
     ensures spelled { IfOk result (λ script. client_lines 2 [] (lines_of bytes.now) ≡ Ok script) }
     ensures refused { IfErr result (λ error. error ≢ ScriptError.NoMemory → client_lines 2 [] (lines_of bytes.now) ≡ Err error) }
 {
-    let mut sofar = Vec::new(alloc);
+    let mut lines = Vec::new(alloc);
     let mut number = 2;
     let mut left = bytes;
     while let Some((line, rest)) = next_line(left) {
         if line == b"schedule".as_slice() {
-            return after_schedule(alloc, number + 1, sofar, rest);
+            return after_schedule(alloc, number + 1, lines, rest);
         }
-        if sofar.len() >= CLIENT_LINES {
+        if lines.len() >= CLIENT_LINES {
             return Err(ScriptError::BadLine(number));
         }
         match line_of(alloc, line) {
-            Ok(Some(asked)) => sofar.push((1, asked))?,
+            Ok(Some(asked)) => lines.push((1, asked))?,
             Ok(None) => return Err(ScriptError::BadLine(number)),
             Err(NoMemory) => return Err(ScriptError::NoMemory),
         }
@@ -110,7 +110,7 @@ fn after_schedule(
     lines: Vec<(u8, Line)>,
     bytes: &[u8],
 ) -> Result<Script, ScriptError>
-    requires { number < 1000 }
+    requires { number + 1 < 2 ^ 32 }
     ensures spelled { IfOk result (λ script. after_schedule number lines.items (lines_of bytes.now) ≡ Ok script) }
     ensures refused { IfErr result (λ error. error ≢ ScriptError.NoMemory → after_schedule number lines.items (lines_of bytes.now) ≡ Err error) }
 {
@@ -127,7 +127,7 @@ fn after_all(
     lines: Vec<(u8, Line)>,
     bytes: &[u8],
 ) -> Result<Script, ScriptError>
-    requires { number < 1000 }
+    requires { number + 1 < 2 ^ 32 }
     ensures spelled { IfOk result (λ script. after_all number lines.items (lines_of bytes.now) ≡ Ok script) }
     ensures refused { IfErr result (λ error. error ≢ ScriptError.NoMemory → after_all number lines.items (lines_of bytes.now) ≡ Err error) }
 {
