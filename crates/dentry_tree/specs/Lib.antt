@@ -1,0 +1,2 @@
+pub mod Dentries
+pub mod Places
