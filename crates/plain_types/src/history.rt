@@ -11,18 +11,18 @@ pub enum Step {
 }
 
 /// A message between nodes. There is none while one server answers each line at once.
-#[derive(Debug, Drop)]
+#[derive(Drop)]
 pub enum Message {}
 
 /// A message that was sent to a node.
-#[derive(Debug, Drop)]
+#[derive(Drop)]
 pub struct Sent {
     pub to: u8,
     pub message: Message,
 }
 
 /// A list of messages that were sent. Contracts see it as a list.
-#[derive(Debug, Drop)]
+#[derive(Drop)]
 pub struct Sending {
     items: Vec<Sent>,
 }
@@ -103,7 +103,7 @@ impl Replies {
 }
 
 /// One event of one node: 0 is the server, 1 and up are the clients.
-#[derive(Debug, Drop)]
+#[derive(Drop)]
 pub struct Event {
     pub node: u8,
     pub step: Step,
@@ -118,7 +118,7 @@ pub struct Event {
 }
 
 /// What happened in a run. Contracts see it as the list of its events.
-#[derive(Debug, Drop)]
+#[derive(Drop)]
 pub struct History {
     events: Vec<Event>,
 }

@@ -39,7 +39,7 @@ impl End {
 }
 
 /// What a run of the program came to.
-#[derive(Debug, Drop)]
+#[derive(Drop)]
 pub struct Outcome {
     /// The exit status.
     pub status: u8,

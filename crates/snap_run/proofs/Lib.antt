@@ -1,3 +1,5 @@
+mod Decisions
+mod Finds
 mod Plain
 mod Ranges
 mod Stands

@@ -1,2 +1,4 @@
 pub mod Direct
+pub mod Event
+pub mod Server
 pub mod Text

@@ -1,0 +1,204 @@
+// How the server answers a line, and the event that this is.
+ghost use Rattle.std.specs.Prelude.{◌≡◌, ◌<◌, ◌^◌, ℕ, ◌-◌, length, slice_get, IsTrue, OnOk, IfOk};
+ghost use Rattle.snap_ids.specs.declared.id.TheConstants.{ROOT};
+ghost use Rattle.snap_ids.specs.Path.{place_of};
+ghost use Rattle.plain_tree.specs.Line as plain;
+ghost use Rattle.plain_tree.specs.State as state;
+ghost use Rattle.plain_tree.specs.Legal.{snap_answer, list_answer, answer_to, change_by, IsServed};
+ghost use Rattle.snap_run.specs.Server.{live_of, tree_of, count_of, has_room, Makes};
+ghost use Rattle.snap_run.specs.Event.{event_of, event_with};
+
+use crate::direct::{Direct, refused};
+use plain_types::{
+    Answer, Change, Decision, Effect, Effects, Event, Line, Refusal, Replied, Replies, Sending,
+    Step,
+};
+use snap_ids::{NOSNAP, Name, NoMemory, Path, ROOT, Target};
+use std::alloc::Global;
+
+impl Direct {
+    // `mkdir` of a path outside `.snap`.
+    fn mkdir_live(&mut self, names: &[Name]) -> Result<Decision, NoMemory>
+        requires { IsTrue (has_room self.old) }
+        ensures decided { IfOk result (λ decision. decision ≡ plain.mkdir_last (live_of self.old) names.now (slice_get names.now (length names.now - 1))) }
+        ensures made { IfOk result (λ decision. Makes self.old self.new (plain.change_of decision)) }
+    {
+        let Some((name, parent)) = names.split_last() else {
+            return Ok(refused(Refusal::BadName));
+        };
+        match self.walk(parent) {
+            Ok(dir) => self.new_entry(dir, name),
+            Err(refusal) => Ok(refused(refusal)),
+        }
+    }
+
+    // `mkdir` of a snapshot of a directory.
+    fn mkdir_snap(&mut self, dir: &[Name], name: &Name) -> Result<Decision, NoMemory>
+        requires { IsTrue (has_room self.old) }
+        ensures decided { IfOk result (λ decision. decision ≡ plain.at_end (state.walk (live_of self.old).entries ROOT dir.now) (plain.new_snap (live_of self.old) (state.next_snap (live_of self.old)) name.now)) }
+        ensures made { IfOk result (λ decision. Makes self.old self.new (plain.change_of decision)) }
+    {
+        match self.walk(dir) {
+            Ok(dir) => self.new_snap(dir, name),
+            Err(refusal) => Ok(refused(refusal)),
+        }
+    }
+
+    // `mkdir`.
+    fn mkdir(&mut self, path: &Path) -> Result<Decision, NoMemory>
+        requires { IsTrue (has_room self.old) }
+        ensures decided { IfOk result (λ decision. decision ≡ plain.mkdir (live_of self.old) (state.next_snap (live_of self.old)) (place_of path.now)) }
+        ensures made { IfOk result (λ decision. Makes self.old self.new (plain.change_of decision)) }
+    {
+        match path.target() {
+            Target::Live(names) => self.mkdir_live(names),
+            Target::Snaps(_) => Ok(refused(Refusal::ReadOnly)),
+            Target::InSnap(dir, name, below) => {
+                if below.is_empty() {
+                    self.mkdir_snap(dir, name)
+                } else {
+                    Ok(refused(Refusal::ReadOnly))
+                }
+            }
+        }
+    }
+
+    // `ls` of a live path.
+    fn list_live(&self, names: &[Name]) -> Result<Answer, NoMemory>
+        ensures { IfOk result (λ answer. answer ≡ plain.answer_of (plain.list_from (live_of self.now) ROOT names.now)) }
+    {
+        self.list_at(ROOT, names, NOSNAP)
+    }
+
+    // `ls` of what stands under `.snap`.
+    fn list_snap(&self, dir: &[Name], name: &Name, below: &[Name]) -> Result<Answer, NoMemory>
+        ensures { IfOk result (λ answer. answer ≡ snap_answer (live_of self.now) (tree_of self.now) dir.now name.now below.now) }
+    {
+        match self.walk(dir) {
+            Ok(dir) => match self.snap_named(dir, name) {
+                Some(id) => self.list_at(dir, below, id),
+                None => Ok(Answer::Refused(Refusal::NoSnap)),
+            },
+            Err(refusal) => Ok(Answer::Refused(refusal)),
+        }
+    }
+
+    // `ls`.
+    fn list(&self, path: &Path) -> Result<Answer, NoMemory>
+        ensures { IfOk result (λ answer. (client : ℕ) → answer ≡ list_answer (live_of self.now) (tree_of self.now) client path.now (place_of path.now)) }
+    {
+        match path.target() {
+            Target::InSnap(dir, name, below) => self.list_snap(dir, name, below),
+            Target::Live(_) => self.list_live(path.names()),
+            Target::Snaps(_) => self.list_live(path.names()),
+        }
+    }
+
+    // What a line comes to; its change is made.
+    fn decide(&mut self, line: &Line) -> Result<Decision, NoMemory>
+        requires { IsTrue (has_room self.old) }
+        ensures change { IfOk result (λ decision. plain.change_of decision ≡ change_by (live_of self.old) line.now) }
+        ensures answer { IfOk result (λ decision. (client : ℕ) → plain.answer_of decision ≡ answer_to (live_of self.old) (tree_of self.old) client line.now) }
+        ensures made { IfOk result (λ decision. Makes self.old self.new (plain.change_of decision)) }
+    {
+        match line {
+            Line::Mkdir { path } => self.mkdir(path),
+            Line::List { path } => match self.list(path) {
+                Ok(answer) => Ok(Decision::Say(answer)),
+                Err(error) => Err(error),
+            },
+        }
+    }
+
+    /// Answers a line of a client, its number-th, and makes its change.
+    pub fn serve(
+        &mut self,
+        alloc: Global,
+        client: u8,
+        number: u32,
+        line: &Line,
+    ) -> Result<Event, NoMemory>
+        ensures served { IfOk result (λ event. IsServed (live_of self.old) (tree_of self.old) (count_of self.old) number client line.now event) }
+        ensures made { OnOk result (Makes self.old self.new (change_by (live_of self.old) line.now)) }
+        ensures room { OnOk result (IsTrue (has_room self.old)) }
+    {
+        if !self.has_room() {
+            return Err(NoMemory);
+        }
+        let entries = self.count();
+        match self.decide(line) {
+            Ok(decision) => event_of(alloc, client, number, entries, decision),
+            Err(error) => Err(error),
+        }
+    }
+}
+
+// The answer to a change.
+fn answer_to(change: &Change) -> Answer
+    ensures { result ≡ plain.answer_to change.now }
+{
+    match change {
+        Change::Mkdir { .. } => Answer::Done,
+        Change::Mksnap { id, .. } => Answer::Snap(*id),
+    }
+}
+
+// The event of a decision.
+fn event_of(
+    alloc: Global,
+    client: u8,
+    number: u32,
+    entries: u64,
+    decision: Decision,
+) -> Result<Event, NoMemory>
+    requires { entries < 2 ^ 63 }
+    ensures { IfOk result (λ event. event ≡ event_of client number entries decision) }
+{
+    match decision {
+        Decision::Put(change) => {
+            let answer = answer_to(&change);
+            let mut effects = Vec::with_capacity(alloc, 1)?;
+            effects.push(Effect {
+                client,
+                entry: entries + 1,
+                change,
+            })?;
+            let reply = Replied {
+                client,
+                line: number,
+                changed: true,
+                entry: entries,
+                answer,
+            };
+            one_reply(alloc, Effects::from_vec(effects), reply)
+        }
+        Decision::Say(answer) => {
+            let effects = Effects::from_vec(Vec::new(alloc));
+            let reply = Replied {
+                client,
+                line: number,
+                changed: false,
+                entry: entries,
+                answer,
+            };
+            one_reply(alloc, effects, reply)
+        }
+    }
+}
+
+// The event of a client's line with these effects and this reply.
+fn one_reply(alloc: Global, effects: Effects, reply: Replied) -> Result<Event, NoMemory>
+    ensures { IfOk result (λ event. event ≡ event_with effects reply) }
+{
+    let client = reply.client;
+    let mut replies = Vec::with_capacity(alloc, 1)?;
+    replies.push(reply)?;
+    Ok(Event {
+        node: client,
+        step: Step::Op(client),
+        taken: None,
+        sent: Sending::from_vec(Vec::new(alloc)),
+        effects,
+        replies: Replies::from_vec(replies),
+    })
+}
