@@ -1,17 +1,18 @@
 // How the server answers a line, and the event that this is.
-ghost use Rattle.std.specs.Prelude.{◌≡◌, ◌<◌, ◌^◌, ℕ, ◌-◌, length, slice_get, IsTrue, OnOk, IfOk};
+ghost use Rattle.std.specs.Prelude.{◌≡◌, ◌<◌, ◌^◌, ℕ, ◌+◌, ◌-◌, [], length, slice_get, IsTrue, OnOk, IfOk};
 ghost use Rattle.snap_ids.specs.declared.id.TheConstants.{ROOT};
 ghost use Rattle.snap_ids.specs.Path.{place_of};
 ghost use Rattle.plain_tree.specs.Line as plain;
 ghost use Rattle.plain_tree.specs.State as state;
+ghost use Rattle.plain_tree.specs.Direct.{ServesAfter};
 ghost use Rattle.plain_tree.specs.Legal.{snap_answer, list_answer, answer_to, change_by, IsServed};
 ghost use Rattle.snap_run.specs.Server.{live_of, tree_of, count_of, has_room, Makes};
 ghost use Rattle.snap_run.specs.Event.{event_of, event_with};
 
 use crate::direct::{Direct, refused};
 use plain_types::{
-    Answer, Change, Decision, Effect, Effects, Event, Line, Refusal, Replied, Replies, Sending,
-    Step,
+    Answer, Change, Decision, Effect, Effects, Event, History, Line, Refusal, Replied, Replies,
+    Sending, Step,
 };
 use snap_ids::{NOSNAP, Name, NoMemory, Path, ROOT, Target};
 use std::alloc::Global;
@@ -201,4 +202,27 @@ fn one_reply(alloc: Global, effects: Effects, reply: Replied) -> Result<Event, N
         effects,
         replies: Replies::from_vec(replies),
     })
+}
+
+// The number of the line that stands behind so many others.
+fn line_number(before: usize) -> Result<u32, NoMemory>
+    ensures { IfOk result (λ number. number ≡ before + 1) }
+{
+    if before >= 4_000_000_000 {
+        return Err(NoMemory);
+    }
+    Ok(before as u32 + 1)
+}
+
+/// The history of a script's lines, each answered after the ones before it.
+pub fn history_of(alloc: Global, lines: &[(u8, Line)]) -> Result<History, NoMemory>
+    ensures { IfOk result (λ history. ServesAfter [] 1 lines.now history) }
+{
+    let mut server = Direct::new(alloc)?;
+    let mut events = Vec::with_capacity(alloc, lines.len())?;
+    for (i, (client, line)) in lines.iter().enumerate() {
+        let number = line_number(i)?;
+        events.push(server.serve(alloc, *client, number, line)?)?;
+    }
+    Ok(History::from_vec(events))
 }
