@@ -5,4 +5,5 @@ mod Plain
 mod Ranges
 mod Served
 mod Stands
+mod Transfers
 mod Views

@@ -2,5 +2,6 @@
 #![tactic(auto)]
 
 mod direct;
+mod edge;
 mod serve;
 mod text;
