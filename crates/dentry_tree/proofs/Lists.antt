@@ -1,5 +1,5 @@
 -- What holds of each element of a part of a list.
-use Rattle.std.proofs.Common.{ℕ, zero, suc, ◌≤◌, ◌<◌, List, [], ◌∷◌, ◌++◌, length, get_or, take, drop, Option, slice_get, ◌≡◌, refl, arith}
+use Rattle.std.proofs.Common.{ℕ, zero, suc, List, [], ◌∷◌, ◌++◌, length, take, drop, slice_get, ◌≡◌, refl, arith}
 use Rattle.std.specs.List.{AllByRecursion, AllWithin}
 
 -- of each up to a place

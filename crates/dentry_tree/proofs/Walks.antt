@@ -1,5 +1,5 @@
 -- A walk along a path, name by name.
-use Rattle.std.proofs.Common.{◌≡◌, ℕ, ◌+◌, ◌<◌, List, ◌∷◌, length, get_or, drop, None, Some, Ok, Err, refl, add-one}
+use Rattle.std.proofs.Common.{◌≡◌, ℕ, ◌+◌, ◌<◌, List, length, get_or, drop, None, Some, Err, add-one}
 use Rattle.std.proofs.Math.Seq.{drop-cons}
 use Rattle.snap_ids.specs.declared.id.Ino.{Ino}
 use Rattle.plain_types.specs.declared.answer.Refusal.TheVariants.{NoEntry}

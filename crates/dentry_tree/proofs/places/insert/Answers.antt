@@ -1,8 +1,7 @@
 use Rattle.std.proofs.Common.{◌≡◌, None, slice_get, arith}
 use Rattle.std.proofs.lemmas.Grind.{common_steps}
 use Rattle.snap_ids.specs.declared.id.TheConstants.{NOSNAP}
-use Rattle.dentry_tree.specs.Dentries.{IsTree}
-use Rattle.dentry_tree.specs.Places.{IsPlace, ino_at, Puts}
+use Rattle.dentry_tree.specs.Places.{IsPlace, ino_at}
 use Rattle.dentry_tree.proofs.Put.{insert_tree, insert_puts}
 use Rattle.dentry_tree.proofs.places.insert.Goals as goal
 use Rattle.dentry_tree.proofs.places.insert.Goals.{After-insert}

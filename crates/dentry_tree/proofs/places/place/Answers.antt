@@ -1,6 +1,5 @@
 use Rattle.std.proofs.Common.{rules, ◌≡◌, true, false}
 use Rattle.std.proofs.lemmas.List.Sorted.{IsPartitionPoint-from_clause}
-use Rattle.dentry_tree.specs.declared.version.Version.{Version}
 use Rattle.dentry_tree.specs.Places.{stands_before}
 use Rattle.dentry_tree.proofs.Lists.{all_taken, all_dropped}
 use Rattle.dentry_tree.proofs.Order.{partitioned, stands_before_before}
