@@ -1,9 +1,11 @@
 mod Allowed
 mod Decisions
 mod Finds
+mod Outcomes
 mod Plain
 mod Ranges
 mod Served
 mod Stands
 mod Transfers
+mod Verdicts
 mod Views

@@ -1,11 +1,11 @@
 -- What a run of the program comes to.
-use Rattle.std.specs.Prelude.{◌≡◌, ℕ, ◌+◌, Bool, true, false, List, [], ◌∷◌, ◌++◌, take, bytes_eq, codes, decimal, IfSome, Option, Ok, Err}
-use Rattle.std.specs.Io.KnownBytes.{IsAtEnd}
+use Rattle.std.specs.Prelude.{◌≡◌, ℕ, ◌+◌, ◌⊎◌, Bool, true, false, List, [], ◌∷◌, ◌++◌, take, bytes_eq, codes, decimal, IfSome, IsSomeAnd, Option, Ok, Err}
+use Rattle.std.specs.Io.KnownBytes.{Appends, IsAtEnd}
 use Rattle.plain_types.specs.declared.history.Event.{Event}
 use Rattle.plain_types.specs.declared.script.Script.{Script}
 use Rattle.plain_tree.specs.History.{replies}
 use Rattle.plain_tree.specs.Legal.{Legal, EachReply, IsFromSnap, IsFromLive}
-use Rattle.io_edge.specs.Outside.{Rises}
+use Rattle.io_edge.specs.Outside.{Rises, AppendsSome}
 use Rattle.script_text.specs.declared.outcome.End.{End}
 use Rattle.script_text.specs.declared.outcome.End.TheVariants as ending
 use Rattle.script_text.specs.declared.error.ScriptError.{ScriptError}
@@ -41,6 +41,9 @@ pub record Reading : Type 0 where
   pub before : ℕ
   pub now : ℕ
 
+abbrev pub reading_of : Option (List ℕ) → Option (List ℕ) → ℕ → ℕ → Reading
+reading_of left after before now = record { left = left; after = after; before = before; now = now }
+
 -- the input is what the source had, up to one byte more than a script can have
 abbrev pub IsInputOf : Reading → List ℕ → Type 0
 IsInputOf reading input = IfSome reading.left (λ bytes. input ≡ take (INPUT_BYTES + 1) bytes)
@@ -72,12 +75,78 @@ pub record Faults (words : List (List ℕ)) (reading : Reading) : Type 0 where
   pub form : is_form words ≡ true
   pub risen : Rises reading.before reading.now
 
--- what the run comes to and writes, if it can be written
+-- What the run comes to and is to write. No step was made where it doesn't come to a script's end.
 abbrev pub IsVerdict : List (List ℕ) → Reading → End → List Event → List ℕ → Type 0
 IsVerdict words reading ending.Done history text = Runs words reading history text
-IsVerdict words reading ending.Usage history text = (is_form words ≡ false) × (text ≡ error_text ending.Usage)
+IsVerdict words reading ending.Usage history text =
+    (is_form words ≡ false) × (history ≡ []) × (text ≡ error_text ending.Usage)
 IsVerdict words reading (ending.ScriptRefused error) history text =
-    Refuses words reading error × (text ≡ line_text error)
-IsVerdict words reading ending.ReadFault history text = Faults words reading × (text ≡ error_text ending.ReadFault)
+    Refuses words reading error × (history ≡ []) × (text ≡ line_text error)
+IsVerdict words reading ending.ReadFault history text =
+    Faults words reading × (history ≡ []) × (text ≡ error_text ending.ReadFault)
 IsVerdict words reading ending.WriteFault history text = ⊥
 IsVerdict words reading ending.NoMemory history text = ⊥
+
+-- the script that an input spells was run
+pub record RunsInput (input : List ℕ) (history : List Event) (text : List ℕ) : Type 0 where
+  pub script : Script
+  pub spelled : grammar input ≡ Ok script
+  pub legal : Legal history script.lines
+  pub printed : text ≡ text_of script history
+
+-- what running an input comes to: a history and its text, or the first line that is wrong
+abbrev pub Replays : List ℕ → End → List Event → List ℕ → Type 0
+Replays input ending.Done history text = RunsInput input history text
+Replays input (ending.ScriptRefused error) history text =
+    (grammar input ≡ Err error) × (history ≡ []) × (text ≡ line_text error)
+Replays input ending.Usage history text = ⊥
+Replays input ending.ReadFault history text = ⊥
+Replays input ending.WriteFault history text = ⊥
+Replays input ending.NoMemory history text = ⊥
+
+-- What a sink had and has, and its counts of faults before and after.
+pub record Writing : Type 0 where
+  pub old : Option (List ℕ)
+  pub new : Option (List ℕ)
+  pub before : ℕ
+  pub now : ℕ
+
+abbrev pub writing_of : Option (List ℕ) → Option (List ℕ) → ℕ → ℕ → Writing
+writing_of old new before now = record { old = old; new = new; before = before; now = now }
+
+-- the verdict's text was written, all of it
+pub record Written (words : List (List ℕ)) (reading : Reading) (writing : Writing) (end : End) (history : List Event) : Type 0 where
+  pub text : List ℕ
+  pub verdict : IsVerdict words reading end history text
+  pub all : Appends writing.old writing.new text
+
+-- the sink failed, behind some front of the text of a verdict
+pub record Broken (words : List (List ℕ)) (reading : Reading) (writing : Writing) (history : List Event) : Type 0 where
+  pub meant : End
+  pub text : List ℕ
+  pub verdict : IsVerdict words reading meant history text
+  pub front : AppendsSome writing.old writing.new text
+  pub risen : Rises writing.before writing.now
+
+-- how the run ended
+abbrev pub IsOutcome : List (List ℕ) → Reading → Writing → End → List Event → Type 0
+IsOutcome words reading writing ending.Done history = Written words reading writing ending.Done history
+IsOutcome words reading writing ending.Usage history = Written words reading writing ending.Usage history
+IsOutcome words reading writing (ending.ScriptRefused error) history =
+    Written words reading writing (ending.ScriptRefused error) history
+IsOutcome words reading writing ending.ReadFault history = Written words reading writing ending.ReadFault history
+IsOutcome words reading writing ending.WriteFault history = Broken words reading writing history
+IsOutcome words reading writing ending.NoMemory history = Unit {0}
+
+-- the source tells what it has left, and that is as P says
+abbrev pub Tells : Reading → (List ℕ → Type 0) → Type 0
+Tells reading P = IsSomeAnd reading.left P
+
+-- neither source nor sink failed
+pub record IsSound (reading : Reading) (writing : Writing) : Type 0 where
+  pub source : Rises reading.before reading.now → ⊥
+  pub sink : Rises writing.before writing.now → ⊥
+
+-- the run ended so, or for want of memory
+abbrev pub EndsAs : End → End → Type 0
+EndsAs wanted end = (end ≡ wanted) ⊎ (end ≡ ending.NoMemory)

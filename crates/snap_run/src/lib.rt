@@ -3,5 +3,9 @@
 
 mod direct;
 mod edge;
+mod run;
 mod serve;
 mod text;
+mod verdict;
+
+pub use run::run_tool;

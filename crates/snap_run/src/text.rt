@@ -20,7 +20,7 @@ fn word(refusal: Refusal) -> &'static [u8]
     }
 }
 
-fn push_number(out: &mut Vec<u8>, n: u64) -> Result<(), AllocError>
+pub fn push_number(out: &mut Vec<u8>, n: u64) -> Result<(), AllocError>
     ensures { OnOk result (out.new.items ≡ out.old.items ++ decimal n) }
 {
     let mut buffer = Buffer::new();

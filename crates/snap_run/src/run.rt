@@ -1,0 +1,97 @@
+// The program's one call.
+ghost use Rattle.std.specs.Prelude.{◌≡◌, ◌≢◌, ℕ, List, [], true, false, Ok, Err, map, string_bytes, IsOk};
+ghost use Rattle.std.specs.Io.KnownBytes.{Appends};
+ghost use Rattle.io_edge.specs.Outside.{Rises};
+ghost use Rattle.script_text.specs.Outcome.{status_of};
+ghost use Rattle.script_text.specs.Grammar.{grammar};
+ghost use Rattle.script_text.specs.declared.error.ScriptError.{ScriptError};
+ghost use Rattle.snap_run.specs.Run.{is_form, error_text, line_text, reading_of, writing_of, Written, Broken, Runs, Refuses, Faults, IsOutcome, Tells, IsSound, EndsAs};
+
+use crate::edge::write_text;
+use crate::verdict::verdict_of;
+use io_edge::{Sink, Source};
+use plain_types::History;
+use script_text::{End, Outcome};
+use snap_ids::NoMemory;
+use std::alloc::Global;
+
+fn ended(end: End, history: History) -> Outcome
+    ensures status { result.status ≡ status_of result.end }
+    ensures end { result.end ≡ end }
+    ensures history { result.history ≡ history }
+{
+    Outcome {
+        status: end.status(),
+        end,
+        history,
+    }
+}
+
+// Runs the words over the source and writes what they come to.
+fn run<S: Source, W: Sink>(alloc: Global, words: &[String], source: &mut S, sink: &mut W) -> Outcome
+    ensures status { result.status ≡ status_of result.end }
+    ensures outcome { IsOutcome (map string_bytes words.now)
+        (reading_of (S.left source.old) (S.left source.new) (S.faults source.old) (S.faults source.new))
+        (writing_of (W.written sink.old) (W.written sink.new) (W.faults sink.old) (W.faults sink.new))
+        result.end result.history }
+    ensures no_memory { result.end ≡ End.NoMemory → sink.new ≡ sink.old }
+{
+    match verdict_of(alloc, words, source) {
+        Ok(verdict) => match write_text(sink, &verdict.text) {
+            Ok(()) => ended(verdict.end, verdict.history),
+            Err(_) => ended(End::WriteFault, verdict.history),
+        },
+        Err(NoMemory) => ended(End::NoMemory, History::from_vec(Vec::new(alloc))),
+    }
+}
+
+/// Runs the program: `words` are its words, with its own name first, and must be exactly `replay`. It reads a script
+/// from the source to its end, serves it, and writes the replies to the sink, or a line that tells of an error.
+///
+/// The outcome says how that ended, with the exit status, and the history of the steps that were made. Want of memory
+/// may end it at any moment before the writing begins; then nothing is written.
+pub fn run_tool<S: Source, W: Sink>(
+    alloc: Global,
+    words: &[String],
+    source: &mut S,
+    sink: &mut W,
+) -> Outcome
+    ensures status { result.status ≡ status_of result.end }
+
+    // The script that the source spells was run, each reply is the plain tree's, and the text of all was written.
+    ensures done { result.end ≡ End.Done → (text : List ℕ) × Runs (map string_bytes words.now)
+        (reading_of (S.left source.old) (S.left source.new) (S.faults source.old) (S.faults source.new)) result.history text
+        × Appends (W.written sink.old) (W.written sink.new) text }
+
+    ensures usage { result.end ≡ End.Usage → (is_form (map string_bytes words.now) ≡ false) × (result.history ≡ [])
+        × Appends (W.written sink.old) (W.written sink.new) (error_text End.Usage) }
+    ensures refused { (error : ScriptError) → result.end ≡ End.ScriptRefused error → Refuses (map string_bytes words.now)
+        (reading_of (S.left source.old) (S.left source.new) (S.faults source.old) (S.faults source.new)) error
+        × (result.history ≡ []) × Appends (W.written sink.old) (W.written sink.new) (line_text error) }
+    ensures read_fault { result.end ≡ End.ReadFault → Faults (map string_bytes words.now)
+        (reading_of (S.left source.old) (S.left source.new) (S.faults source.old) (S.faults source.new))
+        × (result.history ≡ []) × Appends (W.written sink.old) (W.written sink.new) (error_text End.ReadFault) }
+
+    // The sink's count has risen, and what was written is a front of what was to be written.
+    ensures write_fault { result.end ≡ End.WriteFault → Broken (map string_bytes words.now)
+        (reading_of (S.left source.old) (S.left source.new) (S.faults source.old) (S.faults source.new))
+        (writing_of (W.written sink.old) (W.written sink.new) (W.faults sink.old) (W.faults sink.new)) result.history }
+    ensures no_memory { result.end ≡ End.NoMemory → sink.new ≡ sink.old }
+
+    // Where no count rises, each input comes to its one end, or to want of memory.
+    ensures complete { is_form (map string_bytes words.now) ≡ true
+        → Tells (reading_of (S.left source.old) (S.left source.new) (S.faults source.old) (S.faults source.new)) (λ input. IsOk (grammar input))
+        → IsSound (reading_of (S.left source.old) (S.left source.new) (S.faults source.old) (S.faults source.new))
+        (writing_of (W.written sink.old) (W.written sink.new) (W.faults sink.old) (W.faults sink.new))
+        → EndsAs End.Done result.end }
+    ensures complete_refusal { (error : ScriptError) → is_form (map string_bytes words.now) ≡ true
+        → Tells (reading_of (S.left source.old) (S.left source.new) (S.faults source.old) (S.faults source.new)) (λ input. grammar input ≡ Err error)
+        → IsSound (reading_of (S.left source.old) (S.left source.new) (S.faults source.old) (S.faults source.new))
+        (writing_of (W.written sink.old) (W.written sink.new) (W.faults sink.old) (W.faults sink.new))
+        → EndsAs (End.ScriptRefused error) result.end }
+    ensures complete_usage { is_form (map string_bytes words.now) ≡ false
+        → (Rises (W.faults sink.old) (W.faults sink.new) → ⊥)
+        → EndsAs End.Usage result.end }
+{
+    run(alloc, words, source, sink)
+}
