@@ -9,3 +9,6 @@ mod text;
 mod verdict;
 
 pub use run::run_tool;
+
+#[cfg(test)]
+mod tests;
