@@ -145,14 +145,11 @@ made_fold state done (effect ∷ later) all =
 pub all_made : (done : List Effect) → AllMade done (state_after done).snaps
 all_made done = made_fold start [] done tt
 
-Some_injective : (x y : Snapshot) → Some x ≡ Some y → x ≡ y
-Some_injective x y e = cc
-
 -- so was one that is found among them
 pub found_made : (done : List Effect) (test : Snapshot → Bool) (snaps : List Snapshot) (snap : Snapshot) → AllMade done snaps → find test snaps ≡ Some snap → made snap.id done ≡ true
 found_made done test [] snap all found = cc
 found_made done test (first ∷ snaps) snap all found =
     elim (test first) as (λ b. cond b (Some first) (find test snaps) ≡ Some snap → made snap.id done ≡ true) [
-      | true ↦ λ here. subst (λ (x : Snapshot). made x.id done ≡ true) (Some_injective first snap here) all.0
+      | true ↦ λ here. let same : first ≡ snap = cc in subst (λ (x : Snapshot). made x.id done ≡ true) same all.0
       | false ↦ λ later. found_made done test snaps snap all.1 later
     ] found

@@ -1,4 +1,4 @@
 pub mod Direct
 mod Effects
-mod Kept
+pub mod Kept
 pub mod Replies

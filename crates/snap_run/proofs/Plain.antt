@@ -113,18 +113,13 @@ lookup_there : (inodes : List Inode) (entries : List Entry) (dir : Ino) (name : 
 lookup_there inodes [] dir name ino all found = cc
 lookup_there inodes (entry ∷ entries) dir name ino all found =
     elim (is_at dir name entry) as (λ b. cond b (Some entry.ino) (lookup entries dir name) ≡ Some ino → has_inode inodes ino ≡ true) [
-      | true ↦ λ here. subst (λ (x : Ino). has_inode inodes x ≡ true) (Some_injective entry.ino ino here) all.0
+      | true ↦ λ here. let same : entry.ino ≡ ino = cc in subst (λ (x : Ino). has_inode inodes x ≡ true) same all.0
       | false ↦ λ later. lookup_there inodes entries dir name ino all.1 later
     ] found
-  where
-    Some_injective : (x y : Ino) → Some x ≡ Some y → x ≡ y
-    Some_injective x y e = cc
 
 walk_there : (inodes : List Inode) (entries : List Entry) → AllThere inodes entries → (dir : Ino) (path : List (List ℕ)) (ino : Ino) → has_inode inodes dir ≡ true → walk entries dir path ≡ Ok ino → has_inode inodes ino ≡ true
-walk_there inodes entries all dir [] ino is found = subst (λ (x : Ino). has_inode inodes x ≡ true) (Ok_injective dir ino found) is
-  where
-    Ok_injective : (x y : Ino) → ◌≡◌ {A = Result Ino Refusal} (Ok x) (Ok y) → x ≡ y
-    Ok_injective x y e = cc
+walk_there inodes entries all dir [] ino is found =
+    let same : dir ≡ ino = cc in subst (λ (x : Ino). has_inode inodes x ≡ true) same is
 walk_there inodes entries all dir (name ∷ path) ino is found =
     by_lookup (lookup entries dir name) (λ x here. lookup_there inodes entries dir name x all here) (λ x there. walk_there inodes entries all x path ino there) found
   where

@@ -39,12 +39,9 @@ found_is : (P : Snapshot → Type 0) (test : Snapshot → Bool) (snaps : List Sn
 found_is P test [] snap all found = cc
 found_is P test (first ∷ snaps) snap all found =
     elim (test first) as (λ b. cond b (Some first) (find test snaps) ≡ Some snap → P snap) [
-      | true ↦ λ here. subst P (Some_injective first snap here) all.0
+      | true ↦ λ here. let same : first ≡ snap = cc in subst P same all.0
       | false ↦ λ later. found_is P test snaps snap all.1 later
     ] found
-  where
-    Some_injective : (x y : Snapshot) → Some x ≡ Some y → x ≡ y
-    Some_injective x y e = cc
 
 module _ (server : Direct) (done : List Effect) (few : applied_of (snaps_of server) < NOSNAP.0) (stands : Stands server done) where
   same : SameView (live_of server) (state_after done)

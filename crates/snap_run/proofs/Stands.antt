@@ -15,18 +15,10 @@ use Rattle.plain_tree.specs.State.{new_directory, State, Entry, Snapshot, add}
 use Rattle.plain_tree.specs.Change.{apply, make, is_refused, state_after}
 use Rattle.plain_tree.specs.History.{is_making, before_snap, makes}
 use Rattle.plain_tree.specs.Direct.{tree_so_far}
+use Rattle.plain_tree.proofs.Kept.{before_snap-append}
 use Rattle.snap_run.specs.Direct.{StandsFor, IsGiven, applied_of, shown}
 use Rattle.snap_run.proofs.Plain.{state_after-push, kinds_after, kinds_shown}
 use Rattle.snap_run.proofs.Views.{SameView}
-
--- what stands before a snapshot that was made stays
-before-push : (s : SnapId) (done : List Effect) (effect : Effect) → list_any (is_making s) done ≡ true → before_snap s (done ++ effect ∷ []) ≡ before_snap s done
-before-push s [] effect is = cc
-before-push s (first ∷ done) effect is =
-    elim (is_making s first) as (λ b. (b || list_any (is_making s) done) ≡ true → cond b [] (first ∷ before_snap s (done ++ effect ∷ [])) ≡ cond b [] (first ∷ before_snap s done)) [
-      | true ↦ λ _. refl
-      | false ↦ λ there. ap (λ (l : List Effect). first ∷ l) (before-push s done effect there)
-    ] is
 
 -- all effects stand before the one that makes a snapshot for the first time
 before-made : (s : SnapId) (done : List Effect) (effect : Effect) → list_any (is_making s) done ≡ false → is_making s effect ≡ true → before_snap s (done ++ effect ∷ []) ≡ done
@@ -84,7 +76,7 @@ module _ (entries : SnapId → List Entry) (snaps : List Snapshot) (made : ℕ) 
   pub stands_mkdir : (dir : Ino) (name : List ℕ) (ino : Ino) → effect.change ≡ Mkdir dir name ino → is_refused (state_after done) (Mkdir dir name ino) ≡ false → (next : SnapId → List Entry) → ((s : SnapId) → s.0 ≤ applied_of snaps → next s ≡ entries s) → ((s : SnapId) → applied_of snaps < s.0 → s.0 ≤ NOSNAP.0 → next s ≡ add (record { dir = dir; name = name; ino = ino }) (entries s)) → StandsFor next snaps (made + 1) (done ++ effect ∷ [])
   stands_mkdir dir name ino is taken next earlier later = record {
     live = λ s after last. later s after last ∙ ap (add (record { dir = dir; name = name; ino = ino })) (stands.live s after last) ∙ sym (ap (λ (state : State). state.entries) state);
-    past = λ s given. earlier s given.last ∙ stands.past s given ∙ sym (ap (λ (l : List Effect). (state_after l).entries) (before-push s done effect (stands.given s given)));
+    past = λ s given. earlier s given.last ∙ stands.past s given ∙ sym (ap (λ (l : List Effect). (state_after l).entries) (before_snap-append s done (effect ∷ []) (stands.given s given)));
     listed = ap (λ (state : State). state.snaps) state ∙ stands.listed;
     inodes = ap (λ (state : State). length state.inodes) state ∙ length-push (state_after done).inodes _ ∙ ap (λ (n : ℕ). n + 1) stands.inodes;
     given = λ s given. made-push s done effect true false (stands.given s given) (not_making s);
@@ -138,7 +130,7 @@ module _ (entries : SnapId → List Entry) (snaps : List Snapshot) (made : ℕ) 
       other s after = ap (makes s) is ∙ other_numbers id.0 s.0 (λ same. omega (arith, same, after, count_more, next))
 
       past_old : (s : SnapId) → IsGiven snaps s → entries s ≡ (tree_so_far (done ++ effect ∷ []) s).entries
-      past_old s old = stands.past s old ∙ sym (ap (λ (l : List Effect). (state_after l).entries) (before-push s done effect (stands.given s old)))
+      past_old s old = stands.past s old ∙ sym (ap (λ (l : List Effect). (state_after l).entries) (before_snap-append s done (effect ∷ []) (stands.given s old)))
 
       past_new : (s : SnapId) → s.0 ≡ id.0 → entries s ≡ (tree_so_far (done ++ effect ∷ []) s).entries
       past_new s new = stands.live s (omega (arith, new, next)) (omega (arith, new, few)) ∙ sym (ap (λ (l : List Effect). (state_after l).entries) (before-made s done effect (before_it s new) (makes_it s new)))

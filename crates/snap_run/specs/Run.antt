@@ -1,5 +1,5 @@
 -- What a run of the program comes to.
-use Rattle.std.specs.Prelude.{◌≡◌, ℕ, ◌+◌, ◌⊎◌, Bool, true, false, List, [], ◌∷◌, ◌++◌, take, bytes_eq, codes, decimal, IfSome, IsSomeAnd, Option, Ok, Err}
+use Rattle.std.specs.Prelude.{◌≡◌, ℕ, ◌+◌, ◌⊎◌, Bool, true, false, List, [], ◌∷◌, ◌++◌, take, bytes_eq, codes, decimal, IfSome, IsSomeAnd, Option, Ok, Err, String, map, string_bytes}
 use Rattle.std.specs.Io.KnownBytes.{Appends, IsAtEnd}
 use Rattle.plain_types.specs.declared.history.Event.{Event}
 use Rattle.plain_types.specs.declared.script.Script.{Script}
@@ -13,6 +13,10 @@ use Rattle.script_text.specs.declared.error.ScriptError.TheVariants as script
 use Rattle.script_text.specs.declared.parser.TheConstants.{INPUT_BYTES}
 use Rattle.script_text.specs.Grammar.{grammar}
 use Rattle.snap_run.specs.Text.{text_of}
+
+-- the words as texts
+abbrev pub texts : {Z : Type 0} → List (String Z) → List (List ℕ)
+texts words = map string_bytes words
 
 -- the words are the program's own name and `replay`
 abbrev pub is_form : List (List ℕ) → Bool
@@ -41,8 +45,9 @@ pub record Reading : Type 0 where
   pub before : ℕ
   pub now : ℕ
 
-abbrev pub reading_of : Option (List ℕ) → Option (List ℕ) → ℕ → ℕ → Reading
-reading_of left after before now = record { left = left; after = after; before = before; now = now }
+-- what a source tells as the call begins and at its return
+abbrev pub reading_of : {S : Type 0} → (S → Option (List ℕ)) → (S → ℕ) → S → S → Reading
+reading_of left faults old new = record { left = left old; after = left new; before = faults old; now = faults new }
 
 -- the input is what the source had, up to one byte more than a script can have
 abbrev pub IsInputOf : Reading → List ℕ → Type 0
@@ -111,8 +116,10 @@ pub record Writing : Type 0 where
   pub before : ℕ
   pub now : ℕ
 
-abbrev pub writing_of : Option (List ℕ) → Option (List ℕ) → ℕ → ℕ → Writing
-writing_of old new before now = record { old = old; new = new; before = before; now = now }
+-- what a sink tells as the call begins and at its return
+abbrev pub writing_of : {W : Type 0} → (W → Option (List ℕ)) → (W → ℕ) → W → W → Writing
+writing_of written faults old new =
+    record { old = written old; new = written new; before = faults old; now = faults new }
 
 -- the verdict's text was written, all of it
 pub record Written (words : List (List ℕ)) (reading : Reading) (writing : Writing) (end : End) (history : List Event) : Type 0 where

@@ -1,11 +1,11 @@
 // The program's one call.
-ghost use Rattle.std.specs.Prelude.{◌≡◌, ◌≢◌, ℕ, List, [], true, false, Ok, Err, map, string_bytes, IsOk};
+ghost use Rattle.std.specs.Prelude.{◌≡◌, ◌≢◌, ℕ, List, [], true, false, Ok, Err, IsOk};
 ghost use Rattle.std.specs.Io.KnownBytes.{Appends};
 ghost use Rattle.io_edge.specs.Outside.{Rises};
 ghost use Rattle.script_text.specs.Outcome.{status_of};
 ghost use Rattle.script_text.specs.Grammar.{grammar};
 ghost use Rattle.script_text.specs.declared.error.ScriptError.{ScriptError};
-ghost use Rattle.snap_run.specs.Run.{is_form, error_text, line_text, reading_of, writing_of, Written, Broken, Runs, Refuses, Faults, IsOutcome, Tells, IsSound, EndsAs};
+ghost use Rattle.snap_run.specs.Run.{texts, is_form, error_text, line_text, reading_of, writing_of, Written, Broken, Runs, Refuses, Faults, IsOutcome, Tells, IsSound, EndsAs};
 
 use crate::edge::write_text;
 use crate::verdict::verdict_of;
@@ -30,9 +30,9 @@ fn ended(end: End, history: History) -> Outcome
 // Runs the words over the source and writes what they come to.
 fn run<S: Source, W: Sink>(alloc: Global, words: &[String], source: &mut S, sink: &mut W) -> Outcome
     ensures status { result.status ≡ status_of result.end }
-    ensures outcome { IsOutcome (map string_bytes words.now)
-        (reading_of (S.left source.old) (S.left source.new) (S.faults source.old) (S.faults source.new))
-        (writing_of (W.written sink.old) (W.written sink.new) (W.faults sink.old) (W.faults sink.new))
+    ensures outcome { IsOutcome (texts words.now)
+        (reading_of S.left S.faults source.old source.new)
+        (writing_of W.written W.faults sink.old sink.new)
         result.end result.history }
     ensures no_memory { result.end ≡ End.NoMemory → sink.new ≡ sink.old }
 {
@@ -59,37 +59,41 @@ pub fn run_tool<S: Source, W: Sink>(
     ensures status { result.status ≡ status_of result.end }
 
     // The script that the source spells was run, each reply is the plain tree's, and the text of all was written.
-    ensures done { result.end ≡ End.Done → (text : List ℕ) × Runs (map string_bytes words.now)
-        (reading_of (S.left source.old) (S.left source.new) (S.faults source.old) (S.faults source.new)) result.history text
+    ensures done { result.end ≡ End.Done → (text : List ℕ)
+        × Runs (texts words.now) (reading_of S.left S.faults source.old source.new) result.history text
         × Appends (W.written sink.old) (W.written sink.new) text }
 
-    ensures usage { result.end ≡ End.Usage → (is_form (map string_bytes words.now) ≡ false) × (result.history ≡ [])
+    // No step was made, and the line that tells of the error was written.
+    ensures usage { result.end ≡ End.Usage → (is_form (texts words.now) ≡ false)
+        × (result.history ≡ [])
         × Appends (W.written sink.old) (W.written sink.new) (error_text End.Usage) }
-    ensures refused { (error : ScriptError) → result.end ≡ End.ScriptRefused error → Refuses (map string_bytes words.now)
-        (reading_of (S.left source.old) (S.left source.new) (S.faults source.old) (S.faults source.new)) error
-        × (result.history ≡ []) × Appends (W.written sink.old) (W.written sink.new) (line_text error) }
-    ensures read_fault { result.end ≡ End.ReadFault → Faults (map string_bytes words.now)
-        (reading_of (S.left source.old) (S.left source.new) (S.faults source.old) (S.faults source.new))
-        × (result.history ≡ []) × Appends (W.written sink.old) (W.written sink.new) (error_text End.ReadFault) }
+    ensures refused { (error : ScriptError) → result.end ≡ End.ScriptRefused error
+        → Refuses (texts words.now) (reading_of S.left S.faults source.old source.new) error
+        × (result.history ≡ [])
+        × Appends (W.written sink.old) (W.written sink.new) (line_text error) }
+    ensures read_fault { result.end ≡ End.ReadFault
+        → Faults (texts words.now) (reading_of S.left S.faults source.old source.new)
+        × (result.history ≡ [])
+        × Appends (W.written sink.old) (W.written sink.new) (error_text End.ReadFault) }
 
     // The sink's count has risen, and what was written is a front of what was to be written.
-    ensures write_fault { result.end ≡ End.WriteFault → Broken (map string_bytes words.now)
-        (reading_of (S.left source.old) (S.left source.new) (S.faults source.old) (S.faults source.new))
-        (writing_of (W.written sink.old) (W.written sink.new) (W.faults sink.old) (W.faults sink.new)) result.history }
+    ensures write_fault { result.end ≡ End.WriteFault
+        → Broken (texts words.now) (reading_of S.left S.faults source.old source.new)
+        (writing_of W.written W.faults sink.old sink.new) result.history }
     ensures no_memory { result.end ≡ End.NoMemory → sink.new ≡ sink.old }
 
     // Where no count rises, each input comes to its one end, or to want of memory.
-    ensures complete { is_form (map string_bytes words.now) ≡ true
-        → Tells (reading_of (S.left source.old) (S.left source.new) (S.faults source.old) (S.faults source.new)) (λ input. IsOk (grammar input))
-        → IsSound (reading_of (S.left source.old) (S.left source.new) (S.faults source.old) (S.faults source.new))
-        (writing_of (W.written sink.old) (W.written sink.new) (W.faults sink.old) (W.faults sink.new))
+    ensures complete { is_form (texts words.now) ≡ true
+        → Tells (reading_of S.left S.faults source.old source.new) (λ input. IsOk (grammar input))
+        → IsSound (reading_of S.left S.faults source.old source.new)
+        (writing_of W.written W.faults sink.old sink.new)
         → EndsAs End.Done result.end }
-    ensures complete_refusal { (error : ScriptError) → is_form (map string_bytes words.now) ≡ true
-        → Tells (reading_of (S.left source.old) (S.left source.new) (S.faults source.old) (S.faults source.new)) (λ input. grammar input ≡ Err error)
-        → IsSound (reading_of (S.left source.old) (S.left source.new) (S.faults source.old) (S.faults source.new))
-        (writing_of (W.written sink.old) (W.written sink.new) (W.faults sink.old) (W.faults sink.new))
+    ensures complete_refusal { (error : ScriptError) → is_form (texts words.now) ≡ true
+        → Tells (reading_of S.left S.faults source.old source.new) (λ input. grammar input ≡ Err error)
+        → IsSound (reading_of S.left S.faults source.old source.new)
+        (writing_of W.written W.faults sink.old sink.new)
         → EndsAs (End.ScriptRefused error) result.end }
-    ensures complete_usage { is_form (map string_bytes words.now) ≡ false
+    ensures complete_usage { is_form (texts words.now) ≡ false
         → (Rises (W.faults sink.old) (W.faults sink.new) → ⊥)
         → EndsAs End.Usage result.end }
 {

@@ -1,8 +1,8 @@
 // What a run comes to, before anything is written.
-ghost use Rattle.std.specs.Prelude.{◌≡◌, ◌++◌, [], map, string_bytes, OnOk, IfOk};
+ghost use Rattle.std.specs.Prelude.{◌≡◌, ◌++◌, [], OnOk, IfOk};
 ghost use Rattle.script_text.specs.declared.outcome.End.TheVariants as ending;
 ghost use Rattle.script_text.specs.declared.error.ScriptError.TheVariants as script;
-ghost use Rattle.snap_run.specs.Run.{is_form, error_text, line_text, reading_of, IsVerdict, Replays};
+ghost use Rattle.snap_run.specs.Run.{texts, is_form, error_text, line_text, reading_of, IsVerdict, Replays};
 
 use crate::edge::{ReadError, read_input};
 use crate::serve::history_of;
@@ -23,7 +23,7 @@ pub struct Verdict {
 
 /// Whether the words are the program's own name and `replay`.
 pub fn is_replay(words: &[String]) -> bool
-    ensures { result ≡ is_form (map string_bytes words.now) }
+    ensures { result ≡ is_form (texts words.now) }
 {
     match words {
         [_, word] => word.as_bytes() == b"replay".as_slice(),
@@ -95,8 +95,8 @@ pub fn verdict_of<S: Source>(
     words: &[String],
     source: &mut S,
 ) -> Result<Verdict, NoMemory>
-    ensures { IfOk result (λ verdict. IsVerdict (map string_bytes words.now)
-        (reading_of (S.left source.old) (S.left source.new) (S.faults source.old) (S.faults source.new))
+    ensures { IfOk result (λ verdict. IsVerdict (texts words.now)
+        (reading_of S.left S.faults source.old source.new)
         verdict.end verdict.history verdict.text.items) }
 {
     if !is_replay(words) {
