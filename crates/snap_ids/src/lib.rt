@@ -14,3 +14,6 @@ pub use memory::NoMemory;
 pub use name::{Name, NameError};
 pub use path::{Path, PathError, Target};
 pub use text::pieces;
+
+#[cfg(test)]
+mod tests;
