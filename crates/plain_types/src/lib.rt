@@ -12,3 +12,6 @@ pub use change::{Change, Effect, Effects};
 pub use decision::Decision;
 pub use history::{Event, History, Message, Replied, Replies, Sending, Sent, Step};
 pub use script::{Line, Lines, Planned, Restarts, Schedule, Script};
+
+#[cfg(test)]
+mod tests;
