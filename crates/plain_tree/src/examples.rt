@@ -1,7 +1,7 @@
-// What the definitions say of two small stories.
-ghost use Rattle.std.specs.Prelude.{[], codes};
+// What the definitions say of three small stories.
+ghost use Rattle.std.specs.Prelude.{[], ◌++◌, codes};
 ghost use Rattle.plain_tree.specs.Legal.{Legal};
-ghost use Rattle.plain_tree.specs.Example.{later_lines, later_story, earlier_lines, earlier_story, one};
+ghost use Rattle.plain_tree.specs.Example.{later_lines, later_story, earlier_lines, earlier_story, refused_lines, refused_story, one};
 
 /// A script without a line has the empty history.
 pub fn no_line_has_no_event()
@@ -26,4 +26,9 @@ pub fn an_earlier_entry_is_listed()
 /// No history leaves the earlier entry out under the snapshot.
 pub fn an_earlier_entry_is_not_missing()
     ensures { ¬ Legal (earlier_story []) earlier_lines }
+{}
+
+/// Names are listed by their bytes, and what can't be done is refused for its first reason.
+pub fn the_refused_story_is_legal()
+    ensures { Legal (refused_story (one (codes "B") ++ one (codes "a"))) refused_lines }
 {}
