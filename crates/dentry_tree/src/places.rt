@@ -80,7 +80,8 @@ pub fn insert(versions: &mut Vec<Version>, version: Version) -> Result<(), TreeE
     ensures tree { IsTree versions.new.items }
     ensures puts { OnOk result (Puts version versions.old.items versions.new.items) }
     ensures free { OnOk result (lookup (entries_at NOSNAP versions.old.items) version.dir version.name ≡ None) }
-    ensures exists { IsErrOf result TreeError.Exists → IsSome (lookup (entries_at NOSNAP versions.old.items) version.dir version.name) }
+    ensures exists { IsErrOf result TreeError.Exists → IsSome (lookup
+        (entries_at NOSNAP versions.old.items) version.dir version.name) }
     ensures no_other { IsErrOf result TreeError.NoEntry → ⊥ }
     ensures err { OnErr result (versions.new.items ≡ versions.old.items) }
 {

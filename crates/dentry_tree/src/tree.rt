@@ -55,10 +55,14 @@ impl DirTree {
     ) -> Result<(), TreeError>
         requires before_nosnap { applied.0 < NOSNAP.0 }
         requires directory { kind ≡ Kind.Dir }
-        ensures earlier { OnOk result ((s : SnapId) → s.0 ≤ applied.0 → entries_at s self.new ≡ entries_at s self.old) }
-        ensures later { OnOk result ((s : SnapId) → applied.0 < s.0 → s.0 ≤ NOSNAP.0 → entries_at s self.new ≡ add (record { dir = dir; name = name; ino = ino }) (entries_at s self.old)) }
+        ensures earlier { OnOk result ((s : SnapId) → s.0 ≤ applied.0 → entries_at s self.new
+            ≡ entries_at s self.old) }
+        ensures later { OnOk result ((s : SnapId) → applied.0 < s.0 → s.0 ≤ NOSNAP.0
+            → entries_at s self.new ≡ add (record { dir = dir; name = name; ino = ino })
+            (entries_at s self.old)) }
         ensures free { OnOk result (lookup (entries_at NOSNAP self.old) dir name ≡ None) }
-        ensures exists { IsErrOf result TreeError.Exists → IsSome (lookup (entries_at NOSNAP self.old) dir name) }
+        ensures exists { IsErrOf result TreeError.Exists → IsSome (lookup
+            (entries_at NOSNAP self.old) dir name) }
         ensures no_other { IsErrOf result TreeError.NoEntry → ⊥ }
         ensures err { OnErr result (self.new ≡ self.old) }
     {
@@ -87,7 +91,8 @@ impl DirTree {
     /// The inode at the end of a path from a directory, at an id. `NoEntry` at the first name that isn't there.
     pub fn walk(&self, start: Ino, path: &Path, s: SnapId) -> Result<Ino, TreeError>
         ensures found { IfOk result (λ ino. walk (entries_at s self.now) start path.now ≡ Ok ino) }
-        ensures absent { IfErr result (λ error. (error ≡ TreeError.NoEntry) × (walk (entries_at s self.now) start path.now ≡ Err refusal.NoEntry)) }
+        ensures absent { IfErr result (λ error.
+            (error ≡ TreeError.NoEntry) × (walk (entries_at s self.now) start path.now ≡ Err refusal.NoEntry)) }
     {
         self.walk_names(start, path.names(), s)
     }
@@ -96,7 +101,9 @@ impl DirTree {
     #[tactic(auto, using(crate::proofs::Walks::walk_more, crate::proofs::Walks::walk_ends))]
     pub fn walk_names(&self, start: Ino, names: &[Name], s: SnapId) -> Result<Ino, TreeError>
         ensures found { IfOk result (λ ino. walk (entries_at s self.now) start names.now ≡ Ok ino) }
-        ensures absent { IfErr result (λ error. (error ≡ TreeError.NoEntry) × (walk (entries_at s self.now) start names.now ≡ Err refusal.NoEntry)) }
+        ensures absent { IfErr result (λ error.
+            (error ≡ TreeError.NoEntry) × (walk (entries_at s self.now) start names.now
+            ≡ Err refusal.NoEntry)) }
     {
         let mut dir = start;
         for name in names {

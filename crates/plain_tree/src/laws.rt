@@ -9,15 +9,18 @@ ghost use Rattle.plain_tree.specs.Legal.{Legal, EachReply, IsFromSnap, IsFromLiv
 /// Events that serve the lines of one client, each after the effects so far, are a legal history: a snapshot's tree in
 /// the whole history is what it was when the snapshot was made.
 pub fn direct_histories_are_legal()
-    ensures { (lines : List (ℕ × Line)) (history : List Event) → OfOneClient lines → ServesAfter [] 1 lines history → Legal history lines }
+    ensures { (lines : List (ℕ × Line)) (history : List Event) → OfOneClient lines
+        → ServesAfter [] 1 lines history → Legal history lines }
 {}
 
 /// In a legal history each reply to `ls` under `.snap` is the answer in the one tree of that snapshot.
 pub fn replies_under_snap_are_of_its_tree()
-    ensures { (lines : List (ℕ × Line)) (history : List Event) → Legal history lines → EachReply (IsFromSnap history) lines (replies history) }
+    ensures { (lines : List (ℕ × Line)) (history : List Event) → Legal history lines → EachReply
+        (IsFromSnap history) lines (replies history) }
 {}
 
 /// In a legal history each other reply is the live answer.
 pub fn other_replies_are_live()
-    ensures { (lines : List (ℕ × Line)) (history : List Event) → Legal history lines → EachReply (IsFromLive history) lines (replies history) }
+    ensures { (lines : List (ℕ × Line)) (history : List Event) → Legal history lines → EachReply
+        (IsFromLive history) lines (replies history) }
 {}

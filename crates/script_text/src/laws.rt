@@ -16,6 +16,7 @@ pub fn accepted_inputs_are_short()
 pub fn small_inputs()
     ensures empty { grammar [] ≡ Err (ScriptError.BadLine 1) }
     ensures header_alone { grammar (text_of (codes "clients 1" ∷ [])) ≡ Ok (script_of [] [] 1) }
-    ensures wrong_verb { grammar (text_of (codes "clients 1" ∷ codes "1 frob" ∷ [])) ≡ Err (ScriptError.BadLine 2) }
+    ensures wrong_verb { grammar (text_of (codes "clients 1" ∷ codes "1 frob" ∷ [])) ≡ Err
+        (ScriptError.BadLine 2) }
     ensures snapshot { grammar (text_of snapshot_lines) ≡ Ok snapshot_script }
 {}

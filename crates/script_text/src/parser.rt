@@ -43,7 +43,8 @@ fn first_line_feed(bytes: &[u8]) -> Option<usize>
 
 // The first line, and what follows it. There is none where there are no bytes.
 fn next_line(bytes: &[u8]) -> Option<(&[u8], &[u8])>
-    ensures cut { MatchOption result (lines_of bytes.now ≡ []) (λ cut. lines_of bytes.now ≡ cut.0.now ∷ lines_of cut.1.now) }
+    ensures cut { MatchOption result (lines_of bytes.now ≡ []) (λ cut.
+        lines_of bytes.now ≡ cut.0.now ∷ lines_of cut.1.now) }
     ensures shorter { IfSome result (λ cut. length cut.1.now < length bytes.now) }
 {
     if bytes.is_empty() {
@@ -58,7 +59,8 @@ fn next_line(bytes: &[u8]) -> Option<(&[u8], &[u8])>
 // The script whose lines these bytes are.
 fn script_lines(alloc: Global, bytes: &[u8]) -> Result<Script, ScriptError>
     ensures spelled { IfOk result (λ script. script_lines (lines_of bytes.now) ≡ Ok script) }
-    ensures refused { IfErr result (λ error. error ≢ ScriptError.NoMemory → script_lines (lines_of bytes.now) ≡ Err error) }
+    ensures refused { IfErr result (λ error.
+        error ≢ ScriptError.NoMemory → script_lines (lines_of bytes.now) ≡ Err error) }
 {
     match next_line(bytes) {
         Some((line, rest)) if line == b"clients 1".as_slice() => after_header(alloc, rest),
@@ -69,7 +71,8 @@ fn script_lines(alloc: Global, bytes: &[u8]) -> Result<Script, ScriptError>
 // The script whose lines behind the first these bytes are.
 fn after_header(alloc: Global, bytes: &[u8]) -> Result<Script, ScriptError>
     ensures spelled { IfOk result (λ script. after_header (lines_of bytes.now) ≡ Ok script) }
-    ensures refused { IfErr result (λ error. error ≢ ScriptError.NoMemory → after_header (lines_of bytes.now) ≡ Err error) }
+    ensures refused { IfErr result (λ error.
+        error ≢ ScriptError.NoMemory → after_header (lines_of bytes.now) ≡ Err error) }
 {
     match next_line(bytes) {
         None => Ok(script_of(alloc, Vec::new(alloc), Vec::new(alloc), 1)),
@@ -80,7 +83,8 @@ fn after_header(alloc: Global, bytes: &[u8]) -> Result<Script, ScriptError>
 // The script whose lines behind the first these bytes are: client lines and the schedule.
 fn client_lines(alloc: Global, bytes: &[u8]) -> Result<Script, ScriptError>
     ensures spelled { IfOk result (λ script. client_lines 2 [] (lines_of bytes.now) ≡ Ok script) }
-    ensures refused { IfErr result (λ error. error ≢ ScriptError.NoMemory → client_lines 2 [] (lines_of bytes.now) ≡ Err error) }
+    ensures refused { IfErr result (λ error.
+        error ≢ ScriptError.NoMemory → client_lines 2 [] (lines_of bytes.now) ≡ Err error) }
 {
     let mut lines = Vec::new(alloc);
     let mut number = 2;
@@ -111,8 +115,10 @@ fn after_schedule(
     bytes: &[u8],
 ) -> Result<Script, ScriptError>
     requires { number + 1 < 2 ^ 32 }
-    ensures spelled { IfOk result (λ script. after_schedule number lines.items (lines_of bytes.now) ≡ Ok script) }
-    ensures refused { IfErr result (λ error. error ≢ ScriptError.NoMemory → after_schedule number lines.items (lines_of bytes.now) ≡ Err error) }
+    ensures spelled { IfOk result (λ script.
+        after_schedule number lines.items (lines_of bytes.now) ≡ Ok script) }
+    ensures refused { IfErr result (λ error.
+        error ≢ ScriptError.NoMemory → after_schedule number lines.items (lines_of bytes.now) ≡ Err error) }
 {
     match next_line(bytes) {
         Some((line, rest)) if line == b"all".as_slice() => after_all(alloc, number, lines, rest),
@@ -129,7 +135,8 @@ fn after_all(
 ) -> Result<Script, ScriptError>
     requires { number + 1 < 2 ^ 32 }
     ensures spelled { IfOk result (λ script. after_all number lines.items (lines_of bytes.now) ≡ Ok script) }
-    ensures refused { IfErr result (λ error. error ≢ ScriptError.NoMemory → after_all number lines.items (lines_of bytes.now) ≡ Err error) }
+    ensures refused { IfErr result (λ error.
+        error ≢ ScriptError.NoMemory → after_all number lines.items (lines_of bytes.now) ≡ Err error) }
 {
     match next_line(bytes) {
         None => {

@@ -135,7 +135,8 @@ fn target_behind<'a>(dir: &'a [Name], behind: &'a [Name]) -> Target<'a>
 fn names_spelled(alloc: Global, texts: &[&[u8]]) -> Result<Vec<Name>, PathError>
     ensures spelled { IfOk result (λ names. names.items ≡ map (λ text. text.now) texts.now) }
     ensures named { OnOk result (list_all is_name (map (λ text. text.now) texts.now) ≡ true) }
-    ensures bad { IsErrOf result PathError.BadPath → list_all is_name (map (λ text. text.now) texts.now) ≡ false }
+    ensures bad { IsErrOf result PathError.BadPath → list_all is_name (map
+        (λ text. text.now) texts.now) ≡ false }
 {
     let mut names = Vec::with_capacity(alloc, texts.len())?;
     for text in texts {

@@ -158,7 +158,8 @@ impl Direct {
     /// Makes a snapshot of all under a directory.
     pub fn new_snap(&mut self, dir: Ino, name: &Name) -> Result<Decision, NoMemory>
         requires { IsTrue (has_room self.old) }
-        ensures decided { IfOk result (λ decision. decision ≡ plain.new_snap (live_of self.old) (state.next_snap (live_of self.old)) name.now dir) }
+        ensures decided { IfOk result (λ decision.
+            decision ≡ plain.new_snap (live_of self.old) (state.next_snap (live_of self.old)) name.now dir) }
         ensures made { IfOk result (λ decision. Makes self.old self.new (plain.change_of decision)) }
     {
         if !name.is_new_snap() {
@@ -188,7 +189,8 @@ impl Direct {
 
     /// What a directory lists at the end of a path from another, as it stood at an id.
     pub fn list_at(&self, dir: Ino, names: &[Name], s: SnapId) -> Result<Answer, NoMemory>
-        ensures { IfOk result (λ answer. answer ≡ plain.answer_of (plain.list_from (tree_of self.now s) dir names.now)) }
+        ensures { IfOk result (λ answer.
+            answer ≡ plain.answer_of (plain.list_from (tree_of self.now s) dir names.now)) }
     {
         match self.tree.walk_names(dir, names, s) {
             Ok(found) => match self.tree.list(found, s) {

@@ -27,7 +27,8 @@ const PIECE_BYTES: usize = 16384;
 
 /// All that a source has left, up to one byte more than a script can have.
 pub fn read_input<S: Source>(alloc: Global, source: &mut S) -> Result<Vec<u8>, ReadError>
-    ensures input { IfOk result (λ input. IfSome (S.left source.old) (λ bytes. input.items ≡ take (INPUT_BYTES + 1) bytes)) }
+    ensures input { IfOk result (λ input.
+        IfSome (S.left source.old) (λ bytes. input.items ≡ take (INPUT_BYTES + 1) bytes)) }
     ensures end { IfOk result (λ input. length input.items ≤ INPUT_BYTES → IsAtEnd (S.left source.new)) }
     ensures failed { IsErrOf result ReadError.Failed → Rises (S.faults source.old) (S.faults source.new) }
 {

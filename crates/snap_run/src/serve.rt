@@ -21,7 +21,8 @@ impl Direct {
     // `mkdir` of a path outside `.snap`.
     fn mkdir_live(&mut self, names: &[Name]) -> Result<Decision, NoMemory>
         requires { IsTrue (has_room self.old) }
-        ensures decided { IfOk result (λ decision. decision ≡ plain.mkdir_last (live_of self.old) names.now (slice_get names.now (length names.now - 1))) }
+        ensures decided { IfOk result (λ decision.
+            decision ≡ plain.mkdir_last (live_of self.old) names.now (slice_get names.now (length names.now - 1))) }
         ensures made { IfOk result (λ decision. Makes self.old self.new (plain.change_of decision)) }
     {
         let Some((name, parent)) = names.split_last() else {
@@ -36,7 +37,9 @@ impl Direct {
     // `mkdir` of a snapshot of a directory.
     fn mkdir_snap(&mut self, dir: &[Name], name: &Name) -> Result<Decision, NoMemory>
         requires { IsTrue (has_room self.old) }
-        ensures decided { IfOk result (λ decision. decision ≡ plain.at_end (state.walk (live_of self.old).entries ROOT dir.now) (plain.new_snap (live_of self.old) (state.next_snap (live_of self.old)) name.now)) }
+        ensures decided { IfOk result (λ decision.
+            decision ≡ plain.at_end (state.walk (live_of self.old).entries ROOT dir.now)
+            (plain.new_snap (live_of self.old) (state.next_snap (live_of self.old)) name.now)) }
         ensures made { IfOk result (λ decision. Makes self.old self.new (plain.change_of decision)) }
     {
         match self.walk(dir) {
@@ -48,7 +51,8 @@ impl Direct {
     // `mkdir`.
     fn mkdir(&mut self, path: &Path) -> Result<Decision, NoMemory>
         requires { IsTrue (has_room self.old) }
-        ensures decided { IfOk result (λ decision. decision ≡ plain.mkdir (live_of self.old) (state.next_snap (live_of self.old)) (place_of path.now)) }
+        ensures decided { IfOk result (λ decision.
+            decision ≡ plain.mkdir (live_of self.old) (state.next_snap (live_of self.old)) (place_of path.now)) }
         ensures made { IfOk result (λ decision. Makes self.old self.new (plain.change_of decision)) }
     {
         match path.target() {
@@ -66,14 +70,16 @@ impl Direct {
 
     // `ls` of a live path.
     fn list_live(&self, names: &[Name]) -> Result<Answer, NoMemory>
-        ensures { IfOk result (λ answer. answer ≡ plain.answer_of (plain.list_from (live_of self.now) ROOT names.now)) }
+        ensures { IfOk result (λ answer.
+            answer ≡ plain.answer_of (plain.list_from (live_of self.now) ROOT names.now)) }
     {
         self.list_at(ROOT, names, NOSNAP)
     }
 
     // `ls` of what stands under `.snap`.
     fn list_snap(&self, dir: &[Name], name: &Name, below: &[Name]) -> Result<Answer, NoMemory>
-        ensures { IfOk result (λ answer. answer ≡ snap_answer (live_of self.now) (tree_of self.now) dir.now name.now below.now) }
+        ensures { IfOk result (λ answer.
+            answer ≡ snap_answer (live_of self.now) (tree_of self.now) dir.now name.now below.now) }
     {
         match self.walk(dir) {
             Ok(dir) => match self.snap_named(dir, name) {
@@ -86,7 +92,8 @@ impl Direct {
 
     // `ls`.
     fn list(&self, path: &Path) -> Result<Answer, NoMemory>
-        ensures { IfOk result (λ answer. (client : ℕ) → answer ≡ list_answer (live_of self.now) (tree_of self.now) client path.now (place_of path.now)) }
+        ensures { IfOk result (λ answer. (client : ℕ) →
+            answer ≡ list_answer (live_of self.now) (tree_of self.now) client path.now (place_of path.now)) }
     {
         match path.target() {
             Target::InSnap(dir, name, below) => self.list_snap(dir, name, below),
@@ -98,8 +105,10 @@ impl Direct {
     // What a line comes to; its change is made.
     fn decide(&mut self, line: &Line) -> Result<Decision, NoMemory>
         requires { IsTrue (has_room self.old) }
-        ensures change { IfOk result (λ decision. plain.change_of decision ≡ change_by (live_of self.old) line.now) }
-        ensures answer { IfOk result (λ decision. (client : ℕ) → plain.answer_of decision ≡ answer_to (live_of self.old) (tree_of self.old) client line.now) }
+        ensures change { IfOk result (λ decision.
+            plain.change_of decision ≡ change_by (live_of self.old) line.now) }
+        ensures answer { IfOk result (λ decision. (client : ℕ) →
+            plain.answer_of decision ≡ answer_to (live_of self.old) (tree_of self.old) client line.now) }
         ensures made { IfOk result (λ decision. Makes self.old self.new (plain.change_of decision)) }
     {
         match line {
@@ -119,7 +128,8 @@ impl Direct {
         number: u32,
         line: &Line,
     ) -> Result<Event, NoMemory>
-        ensures served { IfOk result (λ event. IsServed (live_of self.old) (tree_of self.old) (count_of self.old) number client line.now event) }
+        ensures served { IfOk result (λ event.
+            IsServed (live_of self.old) (tree_of self.old) (count_of self.old) number client line.now event) }
         ensures made { OnOk result (Makes self.old self.new (change_by (live_of self.old) line.now)) }
         ensures room { OnOk result (IsTrue (has_room self.old)) }
     {

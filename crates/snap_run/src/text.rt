@@ -78,7 +78,8 @@ fn push_reply(out: &mut Vec<u8>, reply: &Replied) -> Result<(), AllocError>
 }
 
 fn push_replies(out: &mut Vec<u8>, replies: &[Replied], client: u8) -> Result<(), AllocError>
-    ensures { OnOk result (out.new.items ≡ out.old.items ++ flat_map reply_text (filter (λ reply. reply.client == client) replies.now)) }
+    ensures { OnOk result (out.new.items ≡ out.old.items ++ flat_map reply_text (filter (λ reply.
+        reply.client == client) replies.now)) }
 {
     for reply in replies {
         if reply.client == client {
