@@ -1,6 +1,6 @@
 // Scripts as they are written, and inputs that are none.
-use crate::{End, Outcome, ScriptError, parse};
-use plain_types::{History, Line, Planned};
+use crate::{End, ScriptError, parse};
+use plain_types::{Line, Planned};
 use std::alloc::{AllocError, Global};
 use std::test::Fail;
 
@@ -142,12 +142,6 @@ fn each_end_has_its_status(rt: HostRuntime) {
         (End::WriteFault, 5),
         (End::NoMemory, 7),
     ] {
-        let history = History::from_vec(Vec::new(rt.alloc()));
-        let outcome = Outcome {
-            status: end.status(),
-            end,
-            history,
-        };
-        assert_eq!(rt; outcome.status, status, "{outcome:?}");
+        assert_eq!(rt; end.status(), status, "{end:?}");
     }
 }
