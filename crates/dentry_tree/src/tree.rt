@@ -33,11 +33,12 @@ impl Model for DirTree {
 }
 
 impl DirTree {
-    /// The root and the stray root, with no entry.
+    /// The root and the stray root, with no entry. It fails only with `NoMemory`.
     #[tactic(auto, unfolding(crate::specs::Dentries::entries_at))]
     pub fn new(alloc: Global) -> Result<DirTree, TreeError>
         ensures empty { IfOk result (λ tree. tree ≡ []) }
         ensures no_entry { IfOk result (λ tree. (s : SnapId) → entries_at s tree ≡ []) }
+        ensures no_memory { IfErr result (λ error. error ≡ TreeError.NoMemory) }
     {
         let versions = Vec::new(alloc);
         Ok(DirTree { versions })

@@ -35,6 +35,7 @@ fn run<S: Source, W: Sink>(alloc: Global, words: &[String], source: &mut S, sink
         (writing_of W.written W.faults sink.old sink.new)
         result.end result.history }
     ensures no_memory { result.end ≡ End.NoMemory → sink.new ≡ sink.old }
+    ensures unread { is_form (texts words.now) ≡ false → source.new ≡ source.old }
 {
     match verdict_of(alloc, words, source) {
         Ok(verdict) => match write_text(sink, &verdict.text) {
@@ -81,6 +82,9 @@ pub fn run_tool<S: Source, W: Sink>(
         → Broken (texts words.now) (reading_of S.left S.faults source.old source.new)
         (writing_of W.written W.faults sink.old sink.new) result.history }
     ensures no_memory { result.end ≡ End.NoMemory → sink.new ≡ sink.old }
+
+    // Nothing is read for words that are no form.
+    ensures unread { is_form (texts words.now) ≡ false → source.new ≡ source.old }
 
     // Where no count rises, each input comes to its one end, or to want of memory.
     ensures complete { is_form (texts words.now) ≡ true

@@ -1,5 +1,5 @@
 // What a run comes to, before anything is written.
-ghost use Rattle.std.specs.Prelude.{◌≡◌, ◌++◌, [], OnOk, IfOk};
+ghost use Rattle.std.specs.Prelude.{◌≡◌, ◌++◌, [], false, OnOk, IfOk};
 ghost use Rattle.script_text.specs.declared.outcome.End.TheVariants as ending;
 ghost use Rattle.script_text.specs.declared.error.ScriptError.TheVariants as script;
 ghost use Rattle.snap_run.specs.Run.{texts, is_form, error_text, line_text, reading_of, IsVerdict, Replays};
@@ -95,9 +95,10 @@ pub fn verdict_of<S: Source>(
     words: &[String],
     source: &mut S,
 ) -> Result<Verdict, NoMemory>
-    ensures { IfOk result (λ verdict. IsVerdict (texts words.now)
+    ensures verdict { IfOk result (λ verdict. IsVerdict (texts words.now)
         (reading_of S.left S.faults source.old source.new)
         verdict.end verdict.history verdict.text.items) }
+    ensures unread { is_form (texts words.now) ≡ false → source.new ≡ source.old }
 {
     if !is_replay(words) {
         return refused(alloc, End::Usage);

@@ -7,8 +7,8 @@ use Rattle.snap_run.proofs.Verdicts.{verdict_from_replays}
 use Rattle.snap_run.proofs.verdict.verdict_of.Goals as goal
 
 -- the input that was read is run
-pub returns-in-Ok : goal.returns-in-Ok
-returns-in-Ok g c =
+pub returns-in-Ok-clause-verdict : goal.returns-in-Ok-clause-verdict
+returns-in-Ok-clause-verdict g c =
     let input = c.deref.result.now in
     let same = sym c.deref.ensures.value in
     let reading = reading_of g.S.Source.left g.S.Source.faults c.args.source.now c.read_input.new.source in
