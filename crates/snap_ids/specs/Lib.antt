@@ -1,2 +1,4 @@
 pub mod Name
 pub mod Path
+pub mod Context
+pub mod Traces

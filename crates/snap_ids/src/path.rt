@@ -1,20 +1,22 @@
 // A path from the root.
-ghost use Rattle.std.specs.Prelude.{◌≡◌, ◌<◌, true, false, None, Some, length, map, position, IfSome, OnOk, IfOk, IsErrOf};
-ghost use Rattle.std.specs.List.{list_all};
+ghost use Rattle.std.specs.Prelude.{◌≡◌, ◌↔◌, ◌==◌, ◌<◌, None, Some, length, map, position, is_some, IfSome, IfOk, IsErrOf};
+ghost use Rattle.std.specs.List.{list_all, slice_split};
 ghost use Rattle.snap_ids.specs.Name.{is_name, is_dot_snap};
 ghost use Rattle.snap_ids.specs.Path.{path_of, names_of, place_said, place_of, place_behind};
 ghost use Rattle.snap_ids.specs.declared.path.PathError.TheVariants.{NoMemory};
 
-use crate::name::{Name, NameError};
+use crate::list::ListOf;
+use crate::memory::NoMemory;
+use crate::name::{Name, is_name};
 use crate::text::pieces;
 use std::alloc::{AllocError, AllocFailed, Global};
 use std::marker::Model;
 use thiserror::Error;
 
 /// A path from the root: its names in order, none for `/`. Contracts see the list of names.
-#[derive(Clone, Debug, Drop)]
+#[derive(Clone, Debug, PartialEq, Eq, Drop)]
 pub struct Path {
-    names: Vec<Name>,
+    names: ListOf<Name>,
 }
 
 impl Model for Path {
@@ -22,7 +24,9 @@ impl Model for Path {
 
     ghost Value = { List (List ℕ) };
 
-    ghost view = { λ path. path.names.items };
+    ghost view = { λ path. path.names };
+
+    ghost inverse = { λ names. record { names = names } };
 }
 
 /// Where a path leads.
@@ -37,7 +41,7 @@ pub enum Target<'a> {
 }
 
 /// Why a text is refused as a path.
-#[derive(Debug, Drop, Error)]
+#[derive(Clone, Copy, Debug, PartialEq, Eq, Error)]
 pub enum PathError {
     #[error("not a path")]
     BadPath,
@@ -61,36 +65,51 @@ impl<T: Drop> From<AllocFailed<T>> for PathError {
     }
 }
 
+// Whether each text between two slashes is a name.
+fn are_names(text: &[u8]) -> bool
+    ensures { result ≡ list_all is_name (slice_split (λ b. b == 47) text.now) }
+{
+    text.split(|b| *b == b'/').all(is_name)
+}
+
+// How many texts there are between the slashes.
+fn count_of_names(text: &[u8]) -> usize
+    ensures { result ≡ length (slice_split (λ b. b == 47) text.now) }
+{
+    text.split(|b| *b == b'/').count()
+}
+
+// Whether a text is what follows the first slash of a path.
+fn is_names(text: &[u8]) -> bool
+    ensures { result ≡ is_some (names_of text.now) }
+{
+    text.is_empty() || (count_of_names(text) <= 32 && are_names(text))
+}
+
 impl Path {
-    /// The path that a text spells: `/`, or 1 to 32 names, each after one `/`.
-    pub fn parse(alloc: Global, text: &[u8]) -> Result<Path, PathError>
-        ensures spelled { IfOk result (λ path. path_of text.now ≡ Some path) }
-        ensures bad_path { IsErrOf result PathError.BadPath → path_of text.now ≡ None }
+    /// Whether a text spells a path: `/`, or 1 to 32 names, each after one `/`.
+    pub fn is_path(text: &[u8]) -> bool
+        ensures { result ≡ is_some (path_of text.now) }
     {
         match text.split_first() {
-            Some((b'/', rest)) => Path::after_slash(alloc, rest),
-            _ => Err(PathError::BadPath),
+            Some((b'/', rest)) => is_names(rest),
+            _ => false,
         }
     }
 
-    // The path whose text goes on so after its first `/`.
-    fn after_slash(alloc: Global, rest: &[u8]) -> Result<Path, PathError>
-        ensures spelled { IfOk result (λ path. names_of rest.now ≡ Some path) }
-        ensures bad_path { IsErrOf result PathError.BadPath → names_of rest.now ≡ None }
+    /// The path that a text spells: `/`, or 1 to 32 names, each after one `/`.
+    pub fn parse(alloc: Global, text: &[u8]) -> Result<Path, PathError>
+        ensures spelled { IfOk result (λ path. path_of text.now ≡ Some path) }
+        ensures bad_path { IsErrOf result PathError.BadPath ↔ (path_of text.now ≡ None) }
     {
-        if rest.is_empty() {
-            let names = Vec::new(alloc);
-            return Ok(Path { names });
-        }
-        let Ok(parts) = pieces(alloc, rest, b'/') else {
-            return Err(PathError::NoMemory);
-        };
-        if parts.len() > 32 {
+        if !Path::is_path(text) {
             return Err(PathError::BadPath);
         }
-        match names_spelled(alloc, &parts) {
-            Ok(names) => Ok(Path { names }),
-            Err(error) => Err(error),
+        match names_behind(alloc, &text[1..]) {
+            Ok(names) => Ok(Path {
+                names: ListOf::from_vec(names),
+            }),
+            Err(NoMemory) => Err(PathError::NoMemory),
         }
     }
 
@@ -98,7 +117,7 @@ impl Path {
     pub fn names(&self) -> &[Name]
         ensures { result.now ≡ self.now }
     {
-        &self.names
+        self.names.as_slice()
     }
 
     /// Where the path leads. It is split at its first `.snap`.
@@ -131,19 +150,26 @@ fn target_behind<'a>(dir: &'a [Name], behind: &'a [Name]) -> Target<'a>
     }
 }
 
-// The names that some texts spell.
-fn names_spelled(alloc: Global, texts: &[&[u8]]) -> Result<Vec<Name>, PathError>
-    ensures spelled { IfOk result (λ names. names.items ≡ map (λ text. text.now) texts.now) }
-    ensures named { OnOk result (list_all is_name (map (λ text. text.now) texts.now) ≡ true) }
-    ensures bad { IsErrOf result PathError.BadPath → list_all is_name (map
-        (λ text. text.now) texts.now) ≡ false }
+// The names of what follows the first slash of a path.
+fn names_behind(alloc: Global, text: &[u8]) -> Result<Vec<Name>, NoMemory>
+    ensures { IfOk result (λ names. IfSome (names_of text.now) (λ spelled. names.items ≡ spelled)) }
+{
+    if text.is_empty() {
+        return Ok(Vec::new(alloc));
+    }
+    let parts = pieces(alloc, text, b'/')?;
+    names_spelled(alloc, &parts)
+}
+
+// The names that texts spell which are all names.
+fn names_spelled(alloc: Global, texts: &[&[u8]]) -> Result<Vec<Name>, NoMemory>
+    ensures { IfOk result (λ names. names.items ≡ map (λ text. text.now) texts.now) }
 {
     let mut names = Vec::with_capacity(alloc, texts.len())?;
     for text in texts {
         match Name::new(alloc, text) {
             Ok(name) => names.push(name)?,
-            Err(NameError::BadName) => return Err(PathError::BadPath),
-            Err(NameError::NoMemory) => return Err(PathError::NoMemory),
+            Err(_) => return Err(NoMemory),
         }
     }
     Ok(names)

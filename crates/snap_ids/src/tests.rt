@@ -1,7 +1,7 @@
-// Names, paths, and where paths lead.
+// Names, paths and where they lead, contexts, and lists.
 use crate::{
-    Entries, FIRST_SNAP, Interval, Kind, NOSNAP, Name, NameError, Path, PathError, SnapId, Target,
-    pieces,
+    ContextError, Entries, FIRST_SNAP, Ids, Interval, Kind, NOSNAP, Name, NameError, Path,
+    PathError, ROOT, RealmInfo, SnapContext, SnapId, Target, Trace, context_of, pieces,
 };
 use std::alloc::{AllocError, Global};
 use std::test::Fail;
@@ -189,5 +189,124 @@ fn entries_keep_their_order(rt: HostRuntime) -> Result<(), Fail> {
     };
     assert_eq!(rt; first.as_bytes(), b"b".as_slice());
     assert_eq!(rt; second.as_bytes(), b"a".as_slice());
+    Ok(())
+}
+
+// A list of ids with these numbers.
+fn ids(alloc: Global, numbers: &[u64]) -> Result<Ids, AllocError> {
+    let mut list = Vec::new(alloc);
+    for number in numbers {
+        list.push(SnapId(*number))?;
+    }
+    Ok(Ids::from_vec(list))
+}
+
+#[test]
+fn contexts_are_judged(rt: HostRuntime) -> Result<(), Fail> {
+    for (seq, listed, wanted) in [
+        (3, [3, 2].as_slice(), None),
+        (3, [].as_slice(), None),
+        (9, [3, 2].as_slice(), None),
+        (5, [3, 3].as_slice(), Some(ContextError::NotDescending)),
+        (5, [2, 3].as_slice(), Some(ContextError::NotDescending)),
+        (1, [3, 3].as_slice(), Some(ContextError::NotDescending)),
+        (2, [3].as_slice(), Some(ContextError::AboveSeq)),
+        (2, [3, 1].as_slice(), Some(ContextError::AboveSeq)),
+    ] {
+        match SnapContext::new(SnapId(seq), ids(rt.alloc(), listed)?) {
+            Ok(context) => {
+                assert_eq!(rt; None, wanted, "{listed:?} under {seq}");
+                assert_eq!(rt; context.seq(), SnapId(seq));
+                assert_eq!(rt; context.ids(), ids(rt.alloc(), listed)?.as_slice());
+            }
+            Err(error) => assert_eq!(rt; Some(error), wanted, "{listed:?} under {seq}"),
+        }
+    }
+    Ok(())
+}
+
+#[test]
+fn a_context_knows_its_ids(rt: HostRuntime) -> Result<(), Fail> {
+    let context = SnapContext::new(SnapId(9), ids(rt.alloc(), &[7, 4, 2])?)?;
+    for (id, wanted) in [
+        (1, false),
+        (2, true),
+        (3, false),
+        (4, true),
+        (7, true),
+        (9, false),
+    ] {
+        assert_eq!(rt; context.knows(SnapId(id)), wanted, "{id}");
+    }
+    Ok(())
+}
+
+// One realm of a trace.
+fn realm(
+    alloc: Global,
+    seq: u64,
+    since: u64,
+    own: &[u64],
+    past: &[u64],
+) -> Result<RealmInfo, AllocError> {
+    Ok(RealmInfo {
+        ino: ROOT,
+        seq: SnapId(seq),
+        since: SnapId(since),
+        own: ids(alloc, own)?,
+        past: ids(alloc, past)?,
+    })
+}
+
+// Whether a trace gives this context.
+fn gives(
+    alloc: Global,
+    trace: &Trace,
+    birth: u32,
+    seq: u64,
+    listed: &[u64],
+) -> Result<bool, AllocError> {
+    let context = context_of(alloc, trace, SnapId(u64::from(birth))).map_err(|_| AllocError)?;
+    Ok(context.seq() == SnapId(seq) && context.ids() == ids(alloc, listed)?.as_slice())
+}
+
+#[test]
+fn traces_give_contexts(rt: HostRuntime) -> Result<(), Fail> {
+    let alloc = rt.alloc();
+    let empty = Trace::new(alloc);
+    assert!(rt; gives(alloc, &empty, 2, 1, &[])?, "no realm");
+
+    let alone = Trace::from_vec(vec![in alloc; realm(alloc, 5, 2, &[5, 3], &[])?]?);
+    assert!(rt; gives(alloc, &alone, 2, 5, &[5, 3])?, "a realm's own ids");
+    assert!(rt;
+        gives(alloc, &alone, 4, 5, &[5])?,
+        "an inode that came between"
+    );
+    assert!(rt;
+        gives(alloc, &alone, 6, 1, &[])?,
+        "an inode that came behind all"
+    );
+
+    // The realm moved under its parent as 6 was the next id: what it had from its old parents stands in `past`.
+    let near = realm(alloc, 4, 6, &[4], &[5, 2])?;
+    let above = realm(alloc, 7, 2, &[7, 6, 3], &[])?;
+    let moved = Trace::from_vec(vec![in alloc; near, above]?);
+    assert!(rt;
+        gives(alloc, &moved, 2, 7, &[7, 6, 5, 4, 2])?,
+        "own, past and the parent's since then"
+    );
+
+    // An id in several places stands once.
+    let near = realm(alloc, 4, 2, &[4, 3], &[3])?;
+    let above = realm(alloc, 4, 2, &[4, 2], &[])?;
+    let same = Trace::from_vec(vec![in alloc; near, above]?);
+    assert!(rt; gives(alloc, &same, 2, 4, &[4, 3, 2])?, "each id once");
+
+    // What stands above the sequence id is left out.
+    let above_seq = Trace::from_vec(vec![in alloc; realm(alloc, 3, 2, &[5, 3], &[])?]?);
+    assert!(rt;
+        gives(alloc, &above_seq, 2, 3, &[3])?,
+        "none above the sequence id"
+    );
     Ok(())
 }
