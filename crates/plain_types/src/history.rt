@@ -1,61 +1,59 @@
 // What happened in a run, event by event.
+ghost use Rattle.std.specs.Prelude.{◌≡◌};
+
 use crate::answer::Answer;
 use crate::change::Effects;
-use std::marker::Model;
+use crate::message::Message;
+use snap_ids::ListOf;
+use std::alloc::AllocError;
 
-/// What one event does.
+/// What one event does. Node 0 is the server, nodes 1 to N are the clients, and node N + 1 is the object store.
 #[derive(Clone, Copy, Debug, PartialEq, Eq, Hash)]
 pub enum Step {
-    /// The client goes on to its next line.
+    /// The client goes on with its lines.
     Op(u8),
+    /// The client sends what is due.
+    Flush(u8),
+    /// The client takes a message from the server.
+    ClientFromServer(u8),
+    /// The client takes a message from the store.
+    ClientFromStore(u8),
+    /// The server takes a message from this node.
+    ServerTakes(u8),
+    /// The buffered entries become durable.
+    Commit,
+    /// The server begins anew; so many of the buffered entries survive.
+    Restart(u32),
+    /// The server does what lies in the background.
+    Tend,
+    /// The store takes a message from this node.
+    StoreTakes(u8),
 }
 
-/// A message between nodes. There is none while one server answers each line at once.
-#[derive(Drop)]
-pub enum Message {}
-
 /// A message that was sent to a node.
-#[derive(Drop)]
+#[derive(Debug, PartialEq, Eq, Drop)]
 pub struct Sent {
     pub to: u8,
     pub message: Message,
 }
 
-/// A list of messages that were sent. Contracts see it as a list.
-#[derive(Drop)]
-pub struct Sending {
-    items: Vec<Sent>,
-}
+// Written out, so that a clone is the same value, in one fact.
+impl Clone for Sent {
+    ghost is_clone = { λ value clone. clone ≡ value };
 
-impl Model for Sending {
-    ghost use Rattle.std.specs.Prelude.{List};
-    ghost use Rattle.plain_types.specs.declared.history.Sent.{Sent};
-
-    ghost Value = { List Sent };
-
-    ghost view = { λ sending. sending.items.items };
-}
-
-impl Sending {
-    ghost use Rattle.std.specs.Prelude.{◌≡◌};
-
-    /// The list of these messages, in their order.
-    pub fn from_vec(items: Vec<Sent>) -> Self
-        ensures { result ≡ items.items }
-    {
-        Sending { items }
-    }
-
-    /// The messages, in their order.
-    pub fn as_slice(&self) -> &[Sent]
-        ensures { result.now ≡ self.now }
-    {
-        &self.items
+    fn clone(&self) -> Result<Self, AllocError> {
+        Ok(Sent {
+            to: self.to,
+            message: self.message.clone()?,
+        })
     }
 }
+
+/// Messages that were sent, in their order.
+pub type Sending = ListOf<Sent>;
 
 /// The reply to a line.
-#[derive(Debug, Drop)]
+#[derive(Debug, PartialEq, Eq, Drop)]
 pub struct Replied {
     /// Whose line it is.
     pub client: u8,
@@ -63,47 +61,42 @@ pub struct Replied {
     pub line: u32,
     /// Whether the line made a change.
     pub changed: bool,
-    /// How many entries the journal had when the line was answered.
+    /// How many entries the journal had when the server answered; 0 where the server was not asked.
     pub entry: u64,
     /// What was answered.
     pub answer: Answer,
 }
 
-/// A list of replies. Contracts see it as a list.
-#[derive(Debug, Drop)]
-pub struct Replies {
-    items: Vec<Replied>,
-}
+// Written out, so that a clone is the same value, in one fact.
+impl Clone for Replied {
+    ghost is_clone = { λ value clone. clone ≡ value };
 
-impl Model for Replies {
-    ghost use Rattle.std.specs.Prelude.{List};
-    ghost use Rattle.plain_types.specs.declared.history.Replied.{Replied};
-
-    ghost Value = { List Replied };
-
-    ghost view = { λ replies. replies.items.items };
-}
-
-impl Replies {
-    ghost use Rattle.std.specs.Prelude.{◌≡◌};
-
-    /// The list of these replies, in their order.
-    pub fn from_vec(items: Vec<Replied>) -> Self
-        ensures { result ≡ items.items }
-    {
-        Replies { items }
-    }
-
-    /// The replies, in their order.
-    pub fn as_slice(&self) -> &[Replied]
-        ensures { result.now ≡ self.now }
-    {
-        &self.items
+    fn clone(&self) -> Result<Self, AllocError> {
+        Ok(Replied {
+            client: self.client,
+            line: self.line,
+            changed: self.changed,
+            entry: self.entry,
+            answer: self.answer.clone()?,
+        })
     }
 }
 
-/// One event of one node: 0 is the server, 1 and up are the clients.
-#[derive(Drop)]
+/// Replies, in the order in which they were given.
+pub type Replies = ListOf<Replied>;
+
+/// What a step came to.
+#[derive(Debug, PartialEq, Eq, Drop)]
+pub struct Done {
+    /// The step that was made, which may be another one than was asked.
+    pub step: Step,
+    pub sent: Sending,
+    pub effects: Effects,
+    pub replies: Replies,
+}
+
+/// One event of one node.
+#[derive(Debug, PartialEq, Eq, Drop)]
 pub struct Event {
     pub node: u8,
     pub step: Step,
@@ -117,35 +110,13 @@ pub struct Event {
     pub replies: Replies,
 }
 
-/// What happened in a run. Contracts see it as the list of its events.
-#[derive(Drop)]
-pub struct History {
-    events: Vec<Event>,
-}
+/// What happened in a run: its events in their order.
+pub type History = ListOf<Event>;
 
-impl Model for History {
-    ghost use Rattle.std.specs.Prelude.{List};
-    ghost use Rattle.plain_types.specs.declared.history.Event.{Event};
-
-    ghost Value = { List Event };
-
-    ghost view = { λ history. history.events.items };
-}
-
-impl History {
-    ghost use Rattle.std.specs.Prelude.{◌≡◌};
-
-    /// The history of these events, in their order.
-    pub fn from_vec(events: Vec<Event>) -> Self
-        ensures { result ≡ events.items }
-    {
-        History { events }
-    }
-
-    /// The events, in their order.
-    pub fn as_slice(&self) -> &[Event]
-        ensures { result.now ≡ self.now }
-    {
-        &self.events
-    }
+/// An event in the log of its node.
+#[derive(Debug, PartialEq, Eq, Drop)]
+pub struct LogItem {
+    /// One more than the greatest clock that the node has used or received.
+    pub clock: u64,
+    pub event: Event,
 }
