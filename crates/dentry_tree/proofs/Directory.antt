@@ -6,8 +6,8 @@ use Rattle.std.proofs.lemmas.List.Elements.{filter-append}
 use Rattle.std.proofs.lemmas.Bool.Decides.{nat_tests}
 use Rattle.snap_ids.specs.declared.id.Ino.{Ino}
 use Rattle.snap_ids.specs.declared.id.SnapId.{SnapId}
-use Rattle.snap_ids.specs.declared.entries.Kind.{Kind}
-use Rattle.snap_ids.specs.declared.entries.Kind.TheVariants.{Dir}
+use Rattle.snap_ids.specs.declared.values.Kind.{Kind}
+use Rattle.snap_ids.specs.declared.values.Kind.TheVariants.{Dir}
 use Rattle.plain_tree.specs.State.{Entry, precedes, listing}
 use Rattle.dentry_tree.specs.declared.version.Version.{Version}
 use Rattle.dentry_tree.specs.Dentries.{entry_of, is_valid_at, entries_at, IsBefore, IsKept}

@@ -3,7 +3,7 @@ use Rattle.std.specs.Prelude.{◌≡◌, ◌≤◌, Bool, ◌&&◌, nat_le, List
 use Rattle.std.specs.List.{AllByRecursion}
 use Rattle.snap_ids.specs.declared.id.SnapId.{SnapId}
 use Rattle.snap_ids.specs.declared.id.TheConstants.{NOSNAP}
-use Rattle.snap_ids.specs.declared.entries.Kind.TheVariants.{Dir}
+use Rattle.snap_ids.specs.declared.values.Kind.TheVariants.{Dir}
 use Rattle.plain_tree.specs.State.{Entry, precedes}
 use Rattle.dentry_tree.specs.declared.version.Version.{Version}
 

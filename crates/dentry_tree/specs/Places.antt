@@ -3,7 +3,7 @@ use Rattle.std.specs.Prelude.{◌≡◌, ◌≤◌, ℕ, Bool, true, false, ◌&
 use Rattle.std.specs.List.{AllByRecursion}
 use Rattle.snap_ids.specs.declared.id.Ino.{Ino}
 use Rattle.snap_ids.specs.declared.id.SnapId.{SnapId}
-use Rattle.snap_ids.specs.declared.entries.Kind.{Kind}
+use Rattle.snap_ids.specs.declared.values.Kind.{Kind}
 use Rattle.plain_tree.specs.State.{is_at, same_ino, precedes, add}
 use Rattle.dentry_tree.specs.declared.version.Version.{Version}
 use Rattle.dentry_tree.specs.Dentries.{entry_of, is_valid_at, entries_at}

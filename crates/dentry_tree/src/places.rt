@@ -1,5 +1,5 @@
 // Versions in the order of their directories and names.
-ghost use Rattle.std.specs.Prelude.{◌≡◌, None, slice_get, map, filter, IsSome, IfOk, IfErr, OnOk, OnErr, IsErrOf};
+ghost use Rattle.std.specs.Prelude.{◌≡◌, ◌↔◌, None, slice_get, map, filter, IsSome, IfOk, IfErr, OnOk, OnErr, IsErrOf};
 ghost use Rattle.std.specs.Option.{option_copied};
 ghost use Rattle.dentry_tree.specs.Dentries.{entry_of, is_valid_at, entries_at, IsInOrder, IsKept, IsTree};
 ghost use Rattle.dentry_tree.specs.Places.{stands_before, IsPlace, ino_at, is_in, item_of, Puts};
@@ -80,7 +80,7 @@ pub fn insert(versions: &mut Vec<Version>, version: Version) -> Result<(), TreeE
     ensures tree { IsTree versions.new.items }
     ensures puts { OnOk result (Puts version versions.old.items versions.new.items) }
     ensures free { OnOk result (lookup (entries_at NOSNAP versions.old.items) version.dir version.name ≡ None) }
-    ensures exists { IsErrOf result TreeError.Exists → IsSome (lookup
+    ensures exists { IsErrOf result TreeError.Exists ↔ IsSome (lookup
         (entries_at NOSNAP versions.old.items) version.dir version.name) }
     ensures no_other { IsErrOf result TreeError.NoEntry → ⊥ }
     ensures err { OnErr result (versions.new.items ≡ versions.old.items) }

@@ -1,7 +1,7 @@
 // The entries of a tree of directories, now and as they were.
-ghost use Rattle.std.specs.Prelude.{◌≡◌, ◌<◌, ◌≤◌, [], None, Ok, Err, IsSome, IfOk, IfErr, OnOk, OnErr, IsErrOf};
+ghost use Rattle.std.specs.Prelude.{◌≡◌, ◌↔◌, ◌<◌, ◌≤◌, [], None, Ok, Err, IsSome, IfOk, IfErr, OnOk, OnErr, IsErrOf};
 ghost use Rattle.snap_ids.specs.declared.id.SnapId.{SnapId};
-ghost use Rattle.snap_ids.specs.declared.entries.Kind.TheVariants.{Dir};
+ghost use Rattle.snap_ids.specs.declared.values.Kind.TheVariants.{Dir};
 ghost use Rattle.plain_types.specs.declared.answer.Refusal.TheVariants as refusal;
 ghost use Rattle.plain_tree.specs.State.{lookup, add, walk, listing};
 ghost use Rattle.dentry_tree.specs.Dentries.{entries_at};
@@ -45,7 +45,7 @@ impl DirTree {
     }
 
     /// A directory gets an entry, valid from the id after `applied` on: what stood when an earlier id was applied
-    /// stays as it was. `Exists` where the name is taken now.
+    /// stays as it was. `Exists` exactly where the name is taken now, which takes no memory to see.
     pub fn put(
         &mut self,
         dir: Ino,
@@ -62,7 +62,7 @@ impl DirTree {
             → entries_at s self.new ≡ add (record { dir = dir; name = name; ino = ino })
             (entries_at s self.old)) }
         ensures free { OnOk result (lookup (entries_at NOSNAP self.old) dir name ≡ None) }
-        ensures exists { IsErrOf result TreeError.Exists → IsSome (lookup
+        ensures exists { IsErrOf result TreeError.Exists ↔ IsSome (lookup
             (entries_at NOSNAP self.old) dir name) }
         ensures no_other { IsErrOf result TreeError.NoEntry → ⊥ }
         ensures err { OnErr result (self.new ≡ self.old) }

@@ -8,10 +8,9 @@ use Rattle.plain_types.specs.declared.change.Change.{Change}
 use Rattle.plain_types.specs.declared.change.Effect.{Effect}
 use Rattle.plain_types.specs.declared.history.Event.{Event}
 use Rattle.plain_types.specs.declared.history.Replied.{Replied}
-use Rattle.plain_types.specs.declared.script.Line.{Line}
 use Rattle.plain_tree.specs.State.{State}
 use Rattle.plain_tree.specs.History.{effects, replies, is_making, before_snap, mark}
-use Rattle.plain_tree.specs.Legal.{IsServed, effects_of}
+use Rattle.plain_tree.specs.Legal.{Asked, IsServed, change_by, effects_of}
 
 -- the reply tells client 1 of a change
 abbrev pub tells : Replied → Bool
@@ -36,8 +35,10 @@ single_from event entries number answer None e r = record { effects = inl e; tol
 single_from event entries number answer (Some change) e r = record { effects = inr (_, refl, e); told = rw (r, e) refl }
 
 -- an event that serves a line of client 1
-pub single_from_served : {live : State} {trees : SnapId → State} {entries number : ℕ} {line : Line} {event : Event} → IsServed live trees entries number 1 line event → IsSingle event
-single_from_served {event = event} served = single_from event _ _ _ _ served.effects served.replies
+pub single_from_served : {live : State} {trees : SnapId → State} {entries : ℕ} {asked : Asked} {event : Event} → asked.client ≡ 1 → IsServed live trees entries asked event → IsSingle event
+single_from_served {live} {entries = entries} {asked = asked} {event = event} of_one served =
+    let effects : event.effects ≡ effects_of 1 entries (change_by live asked.line) = rw of_one at served.effects in
+    single_from event entries asked.number _ (change_by live asked.line) effects (rw of_one at served.replies)
 
 -- the client is told of as many changes as took effect
 pub told_is : (history : List Event) (i : ℕ) → AllSingle history → count_by tells (replies (take i history)) ≡ length (effects (take i history))

@@ -120,7 +120,6 @@ all_made_push done (first ∷ snaps) snap all is = (all.0, all_made_push done sn
 
 -- a change keeps that, as it makes the snapshots that it adds
 made_by : (state : State) (done : List Effect) (effect : Effect) (change : Change) → effect.change ≡ change → AllMade done state.snaps → AllMade (done ++ effect ∷ []) (make state change).snaps
-made_by state done effect (Mkdir dir name ino) is all = all_made_more done effect state.snaps all
 made_by state done effect (Mksnap id dir name) is all =
     all_made_push (done ++ effect ∷ []) state.snaps _ (all_made_more done effect state.snaps all) made_here
   where
@@ -129,6 +128,8 @@ made_by state done effect (Mksnap id dir name) is all =
 
     made_here : made id (done ++ effect ∷ []) ≡ true
     made_here = list_any-append (is_making id) done (effect ∷ []) ∙ rw makes_it (or_true (made id done))
+made_by state done effect (Mkdir dir name ino) is all = all_made_more done effect state.snaps all
+made_by state done effect change is all = all_made_more done effect state.snaps all
 
 made_apply : (state : State) (done : List Effect) (effect : Effect) → AllMade done state.snaps → AllMade (done ++ effect ∷ []) (apply state effect.client effect.change).snaps
 made_apply state done effect all = elim (is_refused state effect.change) as (λ b. AllMade (done ++ effect ∷ []) (cond b state (make state effect.change)).snaps) [

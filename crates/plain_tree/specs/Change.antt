@@ -1,21 +1,23 @@
 -- What a change does to the plain state.
-use Rattle.std.specs.Prelude.{ℕ, Bool, true, not, ◌||◌, ◌&&◌, List, [], ◌∷◌, ◌++◌, fold, if◌then◌else◌, bytes_eq, is_some}
+use Rattle.std.specs.Prelude.{ℕ, Bool, true, not, ◌||◌, List, [], ◌∷◌, ◌++◌, fold, if◌then◌else◌, is_some}
 use Rattle.std.specs.List.{list_any}
 use Rattle.snap_ids.specs.declared.id.Ino.{Ino}
 use Rattle.snap_ids.specs.Name.{is_new, is_new_snap}
 use Rattle.plain_types.specs.declared.change.Change.{Change}
 use Rattle.plain_types.specs.declared.change.Change.TheVariants.{Mkdir, Mksnap}
 use Rattle.plain_types.specs.declared.change.Effect.{Effect}
-use Rattle.plain_tree.specs.State.{State, Snapshot, start, new_directory, same_ino, has_inode, lookup, add}
+use Rattle.plain_tree.specs.State.{State, Snapshot, start, new_directory, is_there, is_named, lookup, add}
 
 -- a live snapshot of the directory has the name
 abbrev pub has_snap : List Snapshot → Ino → List ℕ → Bool
-has_snap snaps dir name = list_any (λ snap. snap.live && same_ino snap.root dir && bytes_eq snap.name name) snaps
+has_snap snaps dir name = list_any (is_named dir name) snaps
 
--- a change is refused where its directory isn't there, or its name can't be a new one or is taken
+-- A change is refused where its directory isn't there, or its name can't be a new one or is taken. Changes that no
+-- server makes yet are refused too.
 abbrev pub is_refused : State → Change → Bool
-is_refused state (Mkdir dir name ino) = not (has_inode state.inodes dir) || not (is_new name) || is_some (lookup state.entries dir name)
-is_refused state (Mksnap id dir name) = not (has_inode state.inodes dir) || not (is_new_snap name) || has_snap state.snaps dir name
+is_refused state (Mkdir dir name ino) = not (is_there state.entries dir) || not (is_new name) || is_some (lookup state.entries dir name)
+is_refused state (Mksnap id dir name) = not (is_there state.entries dir) || not (is_new_snap name) || has_snap state.snaps dir name
+is_refused state change = true
 
 -- the state with a change made
 abbrev pub make : State → Change → State
@@ -26,6 +28,7 @@ make state (Mkdir dir name ino) = record state {
 make state (Mksnap id dir name) = record state {
   snaps = state.snaps ++ record { id = id; root = dir; name = name; live = true } ∷ [];
 }
+make state change = state
 
 -- the state after a client's change; one that is refused leaves it
 abbrev pub apply : State → ℕ → Change → State

@@ -1,8 +1,8 @@
 -- Three small stories, and what is answered in them.
 use Rattle.std.specs.Prelude.{ℕ, ◌+◌, true, false, List, [], ◌∷◌, map, replicate, codes, None}
 use Rattle.snap_ids.specs.declared.id.Ino.{Ino}
-use Rattle.snap_ids.specs.declared.entries.Kind.{Kind}
-use Rattle.snap_ids.specs.declared.entries.Kind.TheVariants.{Dir}
+use Rattle.snap_ids.specs.declared.values.Kind.{Kind}
+use Rattle.snap_ids.specs.declared.values.Kind.TheVariants.{Dir}
 use Rattle.plain_types.specs.declared.answer.Answer.{Answer}
 use Rattle.plain_types.specs.declared.answer.Answer.TheVariants.{Done, Snap, Refused, Listed}
 use Rattle.plain_types.specs.declared.answer.Refusal.{Refusal}

@@ -1,9 +1,9 @@
 -- What a history says: the order of its changes, what each client had been told, and the state after some entries.
-use Rattle.std.specs.Prelude.{ℕ, ◌+◌, Bool, false, ◌&&◌, ◌==◌, List, [], ◌∷◌, take, if◌then◌else◌, count_by, flat_map}
+use Rattle.std.specs.Prelude.{ℕ, ◌+◌, Bool, false, ◌&&◌, ◌==◌, nat_lt, nat_le, List, [], ◌∷◌, take, filter, if◌then◌else◌, count_by, flat_map}
 use Rattle.std.specs.List.{list_any}
 use Rattle.snap_ids.specs.declared.id.SnapId.{SnapId}
 use Rattle.plain_types.specs.declared.change.Change.{Change}
-use Rattle.plain_types.specs.declared.change.Change.TheVariants.{Mkdir, Mksnap}
+use Rattle.plain_types.specs.declared.change.Change.TheVariants.{Mksnap}
 use Rattle.plain_types.specs.declared.change.Effect.{Effect}
 use Rattle.plain_types.specs.declared.history.Event.{Event}
 use Rattle.plain_types.specs.declared.history.Replied.{Replied}
@@ -18,13 +18,13 @@ effects history = flat_map (λ event. event.effects) history
 abbrev pub replies : List Event → List Replied
 replies history = flat_map (λ event. event.replies) history
 
--- the journal's entries: each change of the server is one, and clients change nothing by themselves yet
-abbrev pub journal : List Event → List Effect
-journal history = effects history
+-- the change has a place in the journal, among its first entries
+abbrev pub is_among : ℕ → Effect → Bool
+is_among entries effect = nat_lt 0 effect.entry && nat_le effect.entry entries
 
 -- the plain state after the first entries of the journal
 abbrev pub at_entry : List Event → ℕ → State
-at_entry history entries = state_after (take entries (journal history))
+at_entry history entries = state_after (filter (is_among entries) (effects history))
 
 abbrev pub is_of : ℕ → Effect → Bool
 is_of client effect = effect.client == client
@@ -34,8 +34,8 @@ same_snap s t = s.0 == t.0
 
 -- the change makes this snapshot
 abbrev pub makes : SnapId → Change → Bool
-makes s (Mkdir dir name ino) = false
 makes s (Mksnap id dir name) = same_snap id s
+makes s change = false
 
 abbrev pub is_making : SnapId → Effect → Bool
 is_making s effect = makes s effect.change

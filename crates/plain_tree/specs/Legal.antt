@@ -1,5 +1,6 @@
 -- Which histories are legal for a script: each line's reply is the plain tree's.
-use Rattle.std.specs.Prelude.{◌≡◌, ℕ, ◌+◌, Bool, true, false, ◌&&◌, is_some, List, [], ◌∷◌, length, bytes_eq, find, Option, None, Some}
+use Rattle.std.specs.Prelude.{◌≡◌, ℕ, ◌+◌, Bool, true, false, ◌&&◌, ◌==◌, is_some, List, [], ◌∷◌, length, filter, find, if◌then◌else◌, Option, None, Some}
+use Rattle.std.specs.List.{AllByRecursion}
 use Rattle.snap_ids.specs.declared.id.Ino.{Ino}
 use Rattle.snap_ids.specs.declared.id.SnapId.{SnapId}
 use Rattle.snap_ids.specs.declared.id.TheConstants.{ROOT}
@@ -16,14 +17,14 @@ use Rattle.plain_types.specs.declared.history.Replied.{Replied}
 use Rattle.plain_types.specs.declared.history.Step.TheVariants.{Op}
 use Rattle.plain_types.specs.declared.script.Line.{Line}
 use Rattle.plain_types.specs.declared.script.Line.TheVariants as line
-use Rattle.plain_tree.specs.State.{State, Snapshot, same_ino, next_snap, walk}
-use Rattle.plain_tree.specs.Line.{at_end, list_from, decide, answer_of, change_of, plain}
+use Rattle.plain_tree.specs.State.{State, Snapshot, is_named, next_snap, walk}
+use Rattle.plain_tree.specs.Line.{at_end, list_from, is_served, decide, answer_of, change_of, plain}
 use Rattle.plain_tree.specs.History.{at_entry}
 use Rattle.plain_tree.specs.Cut.{tree}
 
 -- the live snapshot of a directory that has the name
 abbrev pub snap_named : List Snapshot → Ino → List ℕ → Option Snapshot
-snap_named snaps dir name = find (λ snap. snap.live && same_ino snap.root dir && bytes_eq snap.name name) snaps
+snap_named snaps dir name = find (is_named dir name) snaps
 
 -- the answer in a snapshot's tree, from the snapshot's directory; none has the name where there is no snapshot
 abbrev pub in_tree : (SnapId → State) → Ino → List (List ℕ) → Option Snapshot → Decision
@@ -46,9 +47,9 @@ list_answer live trees client path (Live there) = live_answer live client (line.
 list_answer live trees client path (Snaps dir) = live_answer live client (line.List path)
 
 -- what a line is answered
-abbrev pub answer_to : State → (SnapId → State) → ℕ → Line → Answer
-answer_to live trees client (line.List path) = list_answer live trees client path (place_of path)
-answer_to live trees client (line.Mkdir path) = live_answer live client (line.Mkdir path)
+abbrev pub line_answer : State → (SnapId → State) → ℕ → Line → Answer
+line_answer live trees client (line.List path) = list_answer live trees client path (place_of path)
+line_answer live trees client line = live_answer live client line
 
 -- the change that a line makes
 abbrev pub change_by : State → Line → Option Change
@@ -59,35 +60,56 @@ abbrev pub effects_of : ℕ → ℕ → Option Change → List Effect
 effects_of client entries None = []
 effects_of client entries (Some change) = record { client = client; entry = entries + 1; change = change } ∷ []
 
--- The event of a client's line, its number-th, after so many entries, with what is live then and the trees of the
--- snapshots: the client goes on by one line, which makes its change and is answered at once.
-pub record IsServed (live : State) (trees : SnapId → State) (entries number client : ℕ) (line : Line) (event : Event) : Type 0 where
-  pub node : event.node ≡ client
-  pub step : event.step ≡ Op client
+-- a client's line with its number among the client's, from 1
+pub record Asked : Type 0 where
+  pub client : ℕ
+  pub number : ℕ
+  pub line : Line
+
+-- one more line of this client
+abbrev pub one_more : ℕ → (ℕ → ℕ) → ℕ → ℕ
+one_more client numbers other = if other == client then numbers other + 1 else numbers other
+
+-- lines with their numbers, where so many of each client went before
+abbrev pub numbered_after : (ℕ → ℕ) → List (ℕ × Line) → List Asked
+numbered_after before [] = []
+numbered_after before (line ∷ lines) =
+    record { client = line.0; number = before line.0 + 1; line = line.1 } ∷ numbered_after (one_more line.0 before) lines
+
+-- the lines of a script with their numbers
+abbrev pub numbered : List (ℕ × Line) → List Asked
+numbered lines = numbered_after (λ client. 0) lines
+
+-- The event of a client's line after so many entries, with what is live then and the trees of the snapshots: the
+-- client goes on by one line, which makes its change and is answered at once.
+pub record IsServed (live : State) (trees : SnapId → State) (entries : ℕ) (asked : Asked) (event : Event) : Type 0 where
+  pub served : is_served asked.line ≡ true
+  pub node : event.node ≡ asked.client
+  pub step : event.step ≡ Op asked.client
   pub taken : event.taken ≡ None
   pub sent : event.sent ≡ []
-  pub effects : event.effects ≡ effects_of client entries (change_by live line)
+  pub effects : event.effects ≡ effects_of asked.client entries (change_by live asked.line)
   pub replies : event.replies ≡ record {
-    client = client;
-    line = number;
-    changed = is_some (change_by live line);
+    client = asked.client;
+    line = asked.number;
+    changed = is_some (change_by live asked.line);
     entry = entries;
-    answer = answer_to live trees client line;
+    answer = line_answer live trees asked.client asked.line;
   } ∷ []
 
--- These events serve these lines, one after another, from so many entries and lines on. What is live is the plain
--- state after the entries so far; a snapshot has one tree, that of its cut in the whole history.
-abbrev pub Serves : List Event → ℕ → ℕ → List (ℕ × Line) → List Event → Type 0
-Serves history entries number [] [] = Unit {0}
-Serves history entries number (line ∷ lines) (event ∷ events) =
-    IsServed (at_entry history entries) (tree history) entries number line.0 line.1 event
-    × Serves history (entries + length event.effects) (number + 1) lines events
-Serves history entries number [] (event ∷ events) = ⊥
-Serves history entries number (line ∷ lines) [] = ⊥
+-- These events serve these lines, one after another, from so many entries on. What is live is the plain state after
+-- the entries so far; a snapshot has one tree, that of its cut in the whole history.
+abbrev pub Serves : List Event → ℕ → List Asked → List Event → Type 0
+Serves history entries [] [] = Unit {0}
+Serves history entries (asked ∷ lines) (event ∷ events) =
+    IsServed (at_entry history entries) (tree history) entries asked event
+    × Serves history (entries + length event.effects) lines events
+Serves history entries [] (event ∷ events) = ⊥
+Serves history entries (asked ∷ lines) [] = ⊥
 
 -- the history serves the script's lines in their order, each with the plain tree's answer
 abbrev pub Legal : List Event → List (ℕ × Line) → Type 0
-Legal history lines = Serves history 0 1 lines history
+Legal history lines = Serves history 0 (numbered lines) history
 
 -- the reply to `ls` under `.snap` is the answer in the one tree of that snapshot
 abbrev pub IsSnapReply : List Event → List (List ℕ) → Place → Replied → Type 0
@@ -98,7 +120,7 @@ IsSnapReply history path (Snaps dir) reply = Unit {0}
 
 abbrev pub IsFromSnap : List Event → Line → Replied → Type 0
 IsFromSnap history (line.List path) reply = IsSnapReply history path (place_of path) reply
-IsFromSnap history (line.Mkdir path) reply = Unit {0}
+IsFromSnap history line reply = Unit {0}
 
 -- the line asks for what stands under `.snap`
 abbrev pub is_in_snap : Place → Bool
@@ -108,16 +130,23 @@ is_in_snap (Snaps dir) = false
 
 abbrev pub lists_snap : Line → Bool
 lists_snap (line.List path) = is_in_snap (place_of path)
-lists_snap (line.Mkdir path) = false
+lists_snap line = false
 
 -- the reply to any other line is the live answer
 abbrev pub IsFromLive : List Event → Line → Replied → Type 0
 IsFromLive history line reply =
     lists_snap line ≡ false → reply.answer ≡ live_answer (at_entry history reply.entry) reply.client line
 
--- each line has one reply, in the order of the lines, and it is as P says
+-- the reply answers this line of this client
+abbrev pub is_reply_to : Asked → Replied → Bool
+is_reply_to asked reply = reply.client == asked.client && reply.line == asked.number
+
+-- the line has one reply among these, and that is as P says
+pub record HasReply (P : Line → Replied → Type 0) (replies : List Replied) (asked : Asked) : Type 0 where
+  pub reply : Replied
+  pub one : filter (is_reply_to asked) replies ≡ reply ∷ []
+  pub right : P asked.line reply
+
+-- each line of each client has one reply, which is as P says, and there are no others
 abbrev pub EachReply : (Line → Replied → Type 0) → List (ℕ × Line) → List Replied → Type 0
-EachReply P [] [] = Unit {0}
-EachReply P (line ∷ lines) (reply ∷ replies) = P line.1 reply × EachReply P lines replies
-EachReply P [] (reply ∷ replies) = ⊥
-EachReply P (line ∷ lines) [] = ⊥
+EachReply P lines replies = AllByRecursion (HasReply P replies) (numbered lines) × (length replies ≡ length lines)

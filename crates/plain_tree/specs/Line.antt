@@ -1,9 +1,10 @@
 -- What a line of a client asks, and the plain answer, with the refusals in their order.
-use Rattle.std.specs.Prelude.{ℕ, ◌-◌, not, List, [], ◌∷◌, length, take, if◌then◌else◌, slice_get, is_some, Option, None, Some, Result, Ok, Err}
+use Rattle.std.specs.Prelude.{ℕ, ◌-◌, Bool, true, false, not, ◌&&◌, List, [], ◌∷◌, length, take, if◌then◌else◌, slice_get, is_some, Option, None, Some, Result, Ok, Err}
+use Rattle.std.specs.Option.{option_map_or}
 use Rattle.snap_ids.specs.declared.id.Ino.{Ino}
 use Rattle.snap_ids.specs.declared.id.SnapId.{SnapId}
 use Rattle.snap_ids.specs.declared.id.TheConstants.{ROOT}
-use Rattle.snap_ids.specs.Name.{is_new, is_new_snap}
+use Rattle.snap_ids.specs.Name.{is_new, is_new_snap, is_dot_snap, begins_with_underscore}
 use Rattle.snap_ids.specs.Path.{Place, Live, Snaps, InSnap, place_of}
 use Rattle.plain_types.specs.declared.answer.Answer.{Answer}
 use Rattle.plain_types.specs.declared.answer.Answer.TheVariants.{Done, Snap, Refused, Listed}
@@ -54,18 +55,36 @@ abbrev pub list_from : State → Ino → List (List ℕ) → Decision
 list_from state dir path =
     at_end (walk state.entries dir path) (λ found. Say (Listed (listing (kind_in state.inodes) state.entries found)))
 
--- what a line comes to, where a snapshot that it makes gets this id
+-- the last name of the path is `.snap`
+abbrev pub ends_in_snap : List (List ℕ) → Bool
+ends_in_snap path = option_map_or is_dot_snap (slice_get path (length path - 1)) false
+
+-- the place is in a snapshot whose name begins with `_`, as inherited ones do
+abbrev pub is_in_inherited : Place → Bool
+is_in_inherited (InSnap dir name below) = begins_with_underscore name
+is_in_inherited (Live path) = false
+is_in_inherited (Snaps dir) = false
+
+-- The lines that a server takes yet: `mkdir`, and `ls` of what is no list of snapshots and in no inherited one. No
+-- history is legal for another line.
+abbrev pub is_served : Line → Bool
+is_served (line.Mkdir path) = true
+is_served (line.List path) = not (ends_in_snap path) && not (is_in_inherited (place_of path))
+is_served line = false
+
+-- what such a line comes to, where a snapshot that it makes gets this id
 abbrev pub decide : State → SnapId → Line → Decision
 decide state id (line.Mkdir path) = mkdir state id (place_of path)
 decide state id (line.List path) = list_from state ROOT path
+decide state id line = Say (Refused ReadOnly)
 
 -- the answer to a change that succeeds
-abbrev pub answer_to : Change → Answer
-answer_to (change.Mkdir dir name ino) = Done
-answer_to (change.Mksnap id dir name) = Snap id
+abbrev pub answer_of_change : Change → Answer
+answer_of_change (change.Mksnap id dir name) = Snap id
+answer_of_change change = Done
 
 abbrev pub answer_of : Decision → Answer
-answer_of (Put change) = answer_to change
+answer_of (Put change) = answer_of_change change
 answer_of (Say answer) = answer
 
 -- the change that a line makes

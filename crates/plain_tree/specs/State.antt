@@ -1,13 +1,13 @@
 -- The plain state: a tree with nothing but what it is now, and the snapshots that were made.
-use Rattle.std.specs.Prelude.{ℕ, ◌+◌, ◌-◌, Bool, ◌&&◌, ◌==◌, nat_lt, List, [], ◌∷◌, length, map, filter, if◌then◌else◌, bytes_eq, Option, None, Some, Result, Ok, Err}
+use Rattle.std.specs.Prelude.{ℕ, ◌+◌, ◌-◌, Bool, ◌&&◌, ◌||◌, ◌==◌, nat_lt, List, [], ◌∷◌, length, map, filter, if◌then◌else◌, bytes_eq, Option, None, Some, Result, Ok, Err}
 use Rattle.std.specs.List.{list_any}
 use Rattle.std.specs.Ordering.{is_lt, nat_cmp}
 use Rattle.std.specs.Cmp.Lexicographic.{slice_cmp}
 use Rattle.snap_ids.specs.declared.id.Ino.{Ino}
 use Rattle.snap_ids.specs.declared.id.SnapId.{SnapId}
 use Rattle.snap_ids.specs.declared.id.TheConstants.{ROOT, FIRST_INO, FIRST_SNAP}
-use Rattle.snap_ids.specs.declared.entries.Kind.{Kind}
-use Rattle.snap_ids.specs.declared.entries.Kind.TheVariants.{Dir}
+use Rattle.snap_ids.specs.declared.values.Kind.{Kind}
+use Rattle.snap_ids.specs.declared.values.Kind.TheVariants.{Dir}
 use Rattle.plain_types.specs.declared.answer.Refusal.{Refusal}
 use Rattle.plain_types.specs.declared.answer.Refusal.TheVariants.{NoEntry}
 
@@ -64,11 +64,15 @@ next_snap state = record { 0 = FIRST_SNAP.0 + length state.snaps }
 abbrev pub same_ino : Ino → Ino → Bool
 same_ino x y = x.0 == y.0
 
--- the inode is there
-abbrev pub has_inode : List Inode → Ino → Bool
-has_inode inodes ino = list_any (λ inode. same_ino inode.ino ino) inodes
+-- a directory is there while it is the root or an entry names it
+abbrev pub is_there : List Entry → Ino → Bool
+is_there entries dir = same_ino dir ROOT || list_any (λ entry. same_ino entry.ino dir) entries
 
--- what an inode is; where none is there, a directory without entries
+-- the live snapshot of a directory that has a name
+abbrev pub is_named : Ino → List ℕ → Snapshot → Bool
+is_named dir name snap = snap.live && same_ino snap.root dir && bytes_eq snap.name name
+
+-- what an inode is, a directory or a file; a directory where the list doesn't have it
 abbrev pub kind_in : List Inode → Ino → Kind
 kind_in [] ino = Dir
 kind_in (inode ∷ inodes) ino = if same_ino inode.ino ino then inode.kind else kind_in inodes ino

@@ -4,16 +4,17 @@ ghost use Rattle.plain_types.specs.declared.history.Event.{Event};
 ghost use Rattle.plain_types.specs.declared.script.Line.{Line};
 ghost use Rattle.plain_tree.specs.History.{replies};
 ghost use Rattle.plain_tree.specs.Direct.{ServesAfter, OfOneClient};
-ghost use Rattle.plain_tree.specs.Legal.{Legal, EachReply, IsFromSnap, IsFromLive};
+ghost use Rattle.plain_tree.specs.Legal.{numbered, Legal, EachReply, IsFromSnap, IsFromLive};
 
 /// Events that serve the lines of one client, each after the effects so far, are a legal history: a snapshot's tree in
 /// the whole history is what it was when the snapshot was made.
 pub fn direct_histories_are_legal()
     ensures { (lines : List (ℕ × Line)) (history : List Event) → OfOneClient lines
-        → ServesAfter [] 1 lines history → Legal history lines }
+        → ServesAfter [] (numbered lines) history → Legal history lines }
 {}
 
-/// In a legal history each reply to `ls` under `.snap` is the answer in the one tree of that snapshot.
+/// In a legal history each line of each client has one reply, and that to `ls` under `.snap` is the answer in the one tree
+/// of that snapshot.
 pub fn replies_under_snap_are_of_its_tree()
     ensures { (lines : List (ℕ × Line)) (history : List Event) → Legal history lines → EachReply
         (IsFromSnap history) lines (replies history) }
