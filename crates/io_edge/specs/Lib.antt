@@ -1,4 +1,9 @@
 pub mod Calls
+pub mod Disk
+pub mod DiskLaws
 pub mod Drain
+pub mod Drive
 pub mod Feed
 pub mod Outside
+pub mod Past
+pub mod Recorded

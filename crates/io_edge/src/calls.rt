@@ -1,10 +1,15 @@
 // The calls of a form in memory, of which some are to fail.
-ghost use Rattle.std.specs.Prelude.{◌≡◌, IfOk};
+ghost use Rattle.std.specs.Prelude.{◌≡◌, ◌↔◌, ◌<◌, ◌≤◌, ◌+◌, ◌^◌, IsTrue, IfOk, OnOk, IsErrOf};
 ghost use Rattle.io_edge.specs.Calls.{next_count, is_next_listed};
+ghost use Rattle.io_edge.specs.Drive.{is_to_fail};
 
+use crate::disk::DiskError;
 use crate::traits::Failed;
 use snap_ids::NoMemory;
 use std::alloc::Global;
+
+// The number of a disk's last call: numbers stay below 2^62.
+const LAST_DISK_CALL: u64 = (1 << 62) - 1;
 
 // Which calls are to fail, counted from 1, how many were made, and how many failed. The counts stop at
 // the last u64.
@@ -44,5 +49,31 @@ impl FailingCalls {
     {
         self.faults = self.faults.saturating_add(1);
         Failed
+    }
+
+    // Refuses the next call of a disk where it is listed to fail, and where it can't be counted.
+    pub fn admit(&mut self) -> Result<(), DiskError>
+        requires bounded { self.old.calls < 2 ^ 62 }
+        requires fewer { self.old.faults ≤ self.old.calls }
+        ensures refused { IsErrOf result DiskError.Failed
+            ↔ IsTrue (is_to_fail self.old.failing.items self.old.calls) }
+        ensures ok { OnOk result (self.new ≡ self.old) }
+        ensures room { OnOk result (self.old.calls + 1 < 2 ^ 62) }
+        ensures failed { IsErrOf result DiskError.Failed → self.new
+            ≡ record self.old { calls = self.old.calls + 1; faults = self.old.faults + 1 } }
+        ensures no_memory { IsErrOf result DiskError.NoMemory → self.new ≡ self.old }
+        ensures still_bounded { self.new.calls < 2 ^ 62 }
+        ensures still_fewer { self.new.faults ≤ self.new.calls }
+    {
+        if self.calls >= LAST_DISK_CALL {
+            return Err(DiskError::NoMemory);
+        }
+        let next = self.calls + 1;
+        if self.failing.contains(&next) {
+            self.calls = next;
+            self.faults += 1;
+            return Err(DiskError::Failed);
+        }
+        Ok(())
     }
 }

@@ -1,5 +1,5 @@
 // Sources and sinks in memory, whose failures are planned.
-ghost use Rattle.std.specs.Prelude.{◌≡◌, ◌↔◌, ◌<◌, ◌≤◌, ◌++◌, [], Some, length, take, drop, min, IsTrue, IsErr, IfOk, OnErr};
+ghost use Rattle.std.specs.Prelude.{◌≡◌, ◌↔◌, ◌<◌, ◌≤◌, ◌++◌, [], Some, length, take, drop, min, IsTrue, IsErr, IfOk, OnOk, OnErr};
 ghost use Rattle.std.specs.Io.KnownBytes.{ReadConsumes, Appends};
 ghost use Rattle.io_edge.specs.Outside.{Rises, AppendsSome};
 ghost use Rattle.io_edge.specs.Feed.{is_read_refused, feed_after_failure, feed_after_read};
@@ -73,6 +73,7 @@ impl Source for MemSource {
         ensures bound { IfOk result (λ n. n ≤ length room.new) }
         ensures bytes { ReadConsumes (Some self.old.left) (Some self.new.left) result room.new }
         ensures steady { self.old.faults ≤ self.new.faults }
+        ensures sound { OnOk result (self.new.faults ≡ self.old.faults) }
         ensures cause { OnErr result (Rises self.old.faults self.new.faults) }
 
         // Exactly a listed call fails.
@@ -156,6 +157,7 @@ impl Sink for MemSink {
             (AppendsSome (Some self.old.written) (Some self.new.written) bytes.now) }
         ensures nothing { result ≡ Ok 0 → 0 < length bytes.now → Rises self.old.faults self.new.faults }
         ensures steady { self.old.faults ≤ self.new.faults }
+        ensures sound { IfOk result (λ n. (n ≡ 0 → bytes.now ≡ []) → self.new.faults ≡ self.old.faults) }
         ensures cause { OnErr result (Rises self.old.faults self.new.faults) }
 
         // Exactly a listed call fails, and one that finds no room for its bytes.

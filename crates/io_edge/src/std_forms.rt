@@ -35,10 +35,10 @@ impl<I: Read + Drop> Source for StdSource<I> {
         ensures bytes { ReadConsumes (I.remaining self.old.reader) (I.remaining self.new.reader)
             result room.new }
         ensures steady { self.old.faults ≤ self.new.faults }
+        ensures sound { OnOk result (self.new.faults ≡ self.old.faults) }
         ensures cause { OnErr result (Rises self.old.faults self.new.faults) }
 
         // The count rises by one at each failure, and never else.
-        ensures ok { OnOk result (self.new.faults ≡ self.old.faults) }
         ensures err { OnErr result (self.new.faults ≡ next_count self.old.faults) }
     {
         match self.reader.read(room) {
@@ -84,6 +84,7 @@ impl<O: Write + Drop> Sink for StdSink<O> {
             (AppendsSome (O.contents self.old.writer) (O.contents self.new.writer) bytes.now) }
         ensures nothing { result ≡ Ok 0 → 0 < length bytes.now → Rises self.old.faults self.new.faults }
         ensures steady { self.old.faults ≤ self.new.faults }
+        ensures sound { IfOk result (λ n. (n ≡ 0 → bytes.now ≡ []) → self.new.faults ≡ self.old.faults) }
         ensures cause { OnErr result (Rises self.old.faults self.new.faults) }
 
         // The count rises by one at each failure, and never else; a write that takes none of several

@@ -1,5 +1,5 @@
 // What bytes come from, and what they go to.
-ghost use Rattle.std.specs.Prelude.{◌≡◌, ◌<◌, ◌≤◌, ℕ, List, Option, length, take, IfOk, OnErr};
+ghost use Rattle.std.specs.Prelude.{◌≡◌, ◌<◌, ◌≤◌, ℕ, List, [], Option, length, take, IfOk, OnOk, OnErr};
 ghost use Rattle.std.specs.Io.KnownBytes.{ReadConsumes, Appends};
 ghost use Rattle.io_edge.specs.Outside.{Rises, AppendsSome};
 
@@ -19,11 +19,12 @@ pub trait Source {
     ghost faults: { Self → ℕ };
 
     /// Reads some bytes into the front of room, and says how many; none only at the end, or where
-    /// there is no room.
+    /// there is no room. It doesn't try again in silence: where it answers Ok, the count stayed.
     fn read(&mut self, room: &mut [u8]) -> Result<usize, Failed>
         ensures bound { IfOk result (λ n. n ≤ length room.new) }
         ensures bytes { ReadConsumes (left self.old) (left self.new) result room.new }
         ensures steady { faults self.old ≤ faults self.new }
+        ensures sound { OnOk result (faults self.new ≡ faults self.old) }
         ensures cause { OnErr result (Rises (faults self.old) (faults self.new)) };
 }
 
@@ -36,7 +37,7 @@ pub trait Sink {
     ghost faults: { Self → ℕ };
 
     /// Writes some bytes of the front, and says how many. It takes none of several only with a
-    /// raised count.
+    /// raised count; where it answers Ok otherwise, the count stayed.
     fn write(&mut self, bytes: &[u8]) -> Result<usize, Failed>
         ensures bound { IfOk result (λ n. n ≤ length bytes.now) }
         ensures ok { IfOk result (λ n.
@@ -45,5 +46,6 @@ pub trait Sink {
         ensures nothing { result ≡ Ok 0 → 0 < length bytes.now →
             Rises (faults self.old) (faults self.new) }
         ensures steady { faults self.old ≤ faults self.new }
+        ensures sound { IfOk result (λ n. (n ≡ 0 → bytes.now ≡ []) → faults self.new ≡ faults self.old) }
         ensures cause { OnErr result (Rises (faults self.old) (faults self.new)) };
 }
