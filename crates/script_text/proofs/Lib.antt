@@ -1,2 +1,9 @@
-pub mod Lines
-pub mod Short
+pub mod Cuts
+pub mod Numbers
+pub mod Readings
+pub mod Barriers
+pub mod Refusals
+pub mod Kept
+pub mod Steps
+pub mod Fronts
+pub mod Loads

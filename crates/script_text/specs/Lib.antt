@@ -1,3 +1,11 @@
+pub mod Lines
+pub mod Asked
+pub mod Planned
+pub mod Faults
 pub mod Grammar
+pub mod Cut
 pub mod Outcome
+pub mod Verbs
 pub mod Examples
+pub mod Load
+pub mod Places

@@ -2,16 +2,23 @@
 #![tactic(auto)]
 
 mod client;
+mod cut;
 mod error;
 mod laws;
+mod number;
 mod outcome;
 mod parser;
+mod places;
+mod reading;
+mod schedule;
+mod seeded;
 
-pub use client::LINE_BYTES;
 pub use error::ScriptError;
-pub use laws::{accepted_inputs_are_short, small_inputs};
+pub use laws::{accepted_inputs_are_short, small_inputs, small_scripts, the_front_decides};
 pub use outcome::{End, Outcome};
-pub use parser::{CLIENT_LINES, INPUT_BYTES, parse};
+pub use parser::parse;
+pub use places::number_at;
+pub use seeded::load;
 
 #[cfg(test)]
 mod tests;
