@@ -1,0 +1,6 @@
+mod Compact
+mod Listed
+mod Ordered
+mod Pieces
+mod PlainTexts
+mod Ranges

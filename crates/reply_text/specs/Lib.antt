@@ -1,0 +1,11 @@
+pub mod Answer
+pub mod Count
+pub mod Reply
+pub mod Lists
+pub mod Order
+pub mod Plain
+pub mod Json
+pub mod Step
+pub mod Summary
+pub mod Text
+pub mod Example
