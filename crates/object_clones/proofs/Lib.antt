@@ -1,0 +1,16 @@
+pub mod Laid
+pub mod Rises
+pub mod Many
+pub mod Steps
+pub mod Clones
+pub mod Changes
+pub mod Places
+pub mod Tests
+pub mod Found
+pub mod Lists
+pub mod News
+pub mod Follows
+pub mod Stores
+pub mod Edits
+pub mod Taken
+pub mod Answered

@@ -1,0 +1,7 @@
+pub mod Bytes
+pub mod Extents
+pub mod Purged
+pub mod Objects
+pub mod Files
+pub mod Store
+pub mod Stands

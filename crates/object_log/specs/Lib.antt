@@ -1,0 +1,4 @@
+pub mod Bytes
+pub mod Objects
+pub mod Reads
+pub mod Example

@@ -1,0 +1,10 @@
+//! What the object store's answers mean, over the list of messages that it took. The definitions stand in `specs/`. The
+//! functions here have no body, and their contracts are small stories of the definitions.
+#![tactic(auto)]
+
+mod examples;
+
+pub use examples::{
+    a_clone_outlives_its_greatest_id, a_cut_leaves_zeros, a_purge_takes_a_clone,
+    a_second_object_is_cloned_alone, an_object_without_a_head_is_not_cloned,
+};
