@@ -16,15 +16,15 @@ use Rattle.plain_types.specs.declared.decision.Decision.{Decision}
 use Rattle.plain_types.specs.declared.decision.Decision.TheVariants.{Put, Say}
 use Rattle.plain_types.specs.declared.script.Line.{Line}
 use Rattle.plain_types.specs.declared.script.Line.TheVariants as line
-use Rattle.plain_tree.specs.State.{State, has_inode, lookup, walk, next_ino}
+use Rattle.plain_tree.specs.State.{State, is_there, lookup, walk, next_ino}
 use Rattle.plain_tree.specs.Change.{has_snap, is_refused, state_after}
 use Rattle.plain_tree.specs.Line.{at_end, new_entry, new_snap, mkdir_last, mkdir, list_from, decide, change_of}
 use Rattle.snap_run.proofs.Plain.{walked_there}
 
 -- a snapshot has this id
 abbrev pub HasId : SnapId → Change → Type 0
-HasId id (Mkdir dir name ino) = Unit {0}
 HasId id (Mksnap made dir name) = made ≡ id
+HasId id change = Unit {0}
 
 -- the change isn't refused, and a snapshot that it makes has this id
 pub record IsAllowed (state : State) (id : SnapId) (change : Change) : Type 0 where
@@ -35,13 +35,13 @@ put_injective : (x y : Change) → change_of (Put x) ≡ Some y → x ≡ y
 put_injective x y e = cc
 
 module _ (state : State) (id : SnapId) (change : Change) where
-  entry_allowed : (dir : Ino) (name : List ℕ) → has_inode state.inodes dir ≡ true → (new taken : Bool) → is_new name ≡ new → is_some (lookup state.entries dir name) ≡ taken → change_of (if not new then Say (Refused BadName) else (if taken then Say (Refused Exists) else Put (Mkdir dir name (next_ino state)))) ≡ Some change → IsAllowed state id change
+  entry_allowed : (dir : Ino) (name : List ℕ) → is_there state.entries dir ≡ true → (new taken : Bool) → is_new name ≡ new → is_some (lookup state.entries dir name) ≡ taken → change_of (if not new then Say (Refused BadName) else (if taken then Say (Refused Exists) else Put (Mkdir dir name (next_ino state)))) ≡ Some change → IsAllowed state id change
   entry_allowed dir name there false taken new_is taken_is e = cc
   entry_allowed dir name there true true new_is taken_is e = cc
   entry_allowed dir name there true false new_is taken_is e =
       subst (IsAllowed state id) (put_injective _ change e) (record { taken = rw (there, new_is, taken_is) refl; has_id = tt })
 
-  snap_allowed : (dir : Ino) (name : List ℕ) → has_inode state.inodes dir ≡ true → (new taken : Bool) → is_new_snap name ≡ new → has_snap state.snaps dir name ≡ taken → change_of (if not new then Say (Refused BadName) else (if taken then Say (Refused Exists) else Put (Mksnap id dir name))) ≡ Some change → IsAllowed state id change
+  snap_allowed : (dir : Ino) (name : List ℕ) → is_there state.entries dir ≡ true → (new taken : Bool) → is_new_snap name ≡ new → has_snap state.snaps dir name ≡ taken → change_of (if not new then Say (Refused BadName) else (if taken then Say (Refused Exists) else Put (Mksnap id dir name))) ≡ Some change → IsAllowed state id change
   snap_allowed dir name there false taken new_is taken_is e = cc
   snap_allowed dir name there true true new_is taken_is e = cc
   snap_allowed dir name there true false new_is taken_is e =
@@ -51,7 +51,7 @@ module _ (state : State) (id : SnapId) (change : Change) where
   at_end_allowed (Ok dir) go_on allowed e = allowed dir refl e
   at_end_allowed (Err refusal) go_on allowed e = cc
 
-  module _ (there : (path : List (List ℕ)) (dir : Ino) → walk state.entries ROOT path ≡ Ok dir → has_inode state.inodes dir ≡ true) where
+  module _ (there : (path : List (List ℕ)) (dir : Ino) → walk state.entries ROOT path ≡ Ok dir → is_there state.entries dir ≡ true) where
     mkdir_last_allowed : (path : List (List ℕ)) (last : Option (List ℕ)) → change_of (mkdir_last state path last) ≡ Some change → IsAllowed state id change
     mkdir_last_allowed path None e = cc
     mkdir_last_allowed path (Some name) e =
@@ -70,7 +70,8 @@ module _ (state : State) (id : SnapId) (change : Change) where
     decided_allowed : (line : Line) → change_of (decide state id line) ≡ Some change → IsAllowed state id change
     decided_allowed (line.Mkdir path) e = mkdir_allowed (place_of path) e
     decided_allowed (line.List path) e = list_allowed path e
+    decided_allowed line e = cc
 
 -- after any effects, what a line decides is allowed
 pub allowed : (done : List Effect) (id : SnapId) (line : Line) (change : Change) → change_of (decide (state_after done) id line) ≡ Some change → IsAllowed (state_after done) id change
-allowed done id line change e = decided_allowed (state_after done) id change (walked_there done) line e
+allowed done id line change e = decided_allowed (state_after done) id change (walked_there (state_after done).entries) line e

@@ -3,7 +3,6 @@ mod Decisions
 mod Finds
 mod Outcomes
 mod Plain
-mod Ranges
 mod Served
 mod Stands
 mod Transfers

@@ -1,7 +1,7 @@
 -- What the outcome of a run says at each end.
-use Rattle.std.proofs.Common.{◌≡◌, ℕ, ◌+◌, List, [], take, Bool, true, false, Option, None, Some, Result, Ok, Err, inl, inr, refl, sym, ap, ◌∙◌, subst, arith}
-use Rattle.std.specs.Prelude.{IfSome, IsSomeAnd, IsOk}
-use Rattle.std.proofs.lemmas.List.{take_all, length-take}
+use Rattle.std.proofs.Common.{◌≡◌, ℕ, ◌≤◌, List, [], length, take, Bool, true, false, cond, Option, None, Some, Result, Ok, Err, inl, inr, refl, sym, ap, ◌∙◌, subst, arith}
+use Rattle.std.specs.Prelude.{IfSome, IsSomeAnd}
+use Rattle.std.proofs.lemmas.List.{take_all}
 use Rattle.std.specs.Io.KnownBytes.{Appends}
 use Rattle.plain_types.specs.declared.history.Event.{Event}
 use Rattle.plain_types.specs.declared.script.Script.{Script}
@@ -9,52 +9,76 @@ use Rattle.io_edge.specs.Outside.{Rises, AppendsSome}
 use Rattle.script_text.specs.declared.error.ScriptError.{ScriptError}
 use Rattle.script_text.specs.declared.outcome.End.{End}
 use Rattle.script_text.specs.declared.outcome.End.TheVariants as ending
-use Rattle.script_text.specs.declared.parser.TheConstants.{INPUT_BYTES}
-use Rattle.script_text.specs.Grammar.{lines_of, script_lines, grammar}
-use Rattle.snap_run.specs.Run.{is_form, error_text, line_text, Reading, Writing, IsInputOf, Runs, Refuses, Faults, IsVerdict, Broken, IsOutcome, Tells, IsSound, EndsAs}
+use Rattle.script_text.specs.Grammar.{grammar}
+use Rattle.snap_run.specs.Ends.{is_replay, end_of_result, end_of, EndsAs}
+use Rattle.snap_run.specs.Run.{error_text, Reading, Writing, ComesTo, RunsAll, Faults, IsVerdict, Broken, IsOutcome, Tells, IsSound}
 
 -- a write that failed behind the text of a verdict
-pub broken : (words : List (List ℕ)) (reading : Reading) (writing : Writing) (meant end : End) (history after : List Event) (text : List ℕ) → IsVerdict words reading meant history text → AppendsSome writing.old writing.new text → Rises writing.before writing.now → end ≡ ending.WriteFault → after ≡ history → IsOutcome words reading writing end after
-broken words reading writing meant end history after text verdict front risen is same =
+pub broken : (words : List (List ℕ)) (reading : Reading) (writing : Writing) (meant end : End) (history after : List Event) (printed : List ℕ) → IsVerdict words reading meant history printed → AppendsSome writing.old writing.new printed → Rises writing.before writing.now → end ≡ ending.WriteFault → after ≡ history → IsOutcome words reading writing end after
+broken words reading writing meant end history after printed verdict front risen is same =
     subst (λ (e : End). IsOutcome words reading writing e after) (sym is)
-    (subst (λ (h : List Event). Broken words reading writing h) (sym same) (record { meant = meant; text = text; verdict = verdict; front = front; risen = risen }))
+    (subst (λ (h : List Event). Broken words reading writing h) (sym same) (record { meant = meant; printed = printed; verdict = verdict; front = front; risen = risen }))
+
+-- a text that was written
+pub written : (words : List (List ℕ)) (reading : Reading) (writing : Writing) (end : End) (history : List Event) (printed : List ℕ) → IsVerdict words reading end history printed → Appends writing.old writing.new printed → writing.now ≡ writing.before → IsOutcome words reading writing end history
+written words reading writing ending.WriteFault history printed verdict all sound = absurd verdict
+written words reading writing ending.NoMemory history printed verdict all sound = absurd verdict
+written words reading writing end history printed verdict all sound = record { printed = printed; verdict = verdict; all = all; sound = sound }
 
 module _ (words : List (List ℕ)) (reading : Reading) (writing : Writing) (end : End) (history : List Event) (outcome : IsOutcome words reading writing end history) where
   at : (wanted : End) → end ≡ wanted → IsOutcome words reading writing wanted history
   at wanted is = subst (λ (e : End). IsOutcome words reading writing e history) is outcome
 
-  pub at_done : end ≡ ending.Done → (text : List ℕ) × Runs words reading history text × Appends writing.old writing.new text
-  at_done is = let written = at ending.Done is in (written.text, written.verdict, written.all)
+  pub at_done : end ≡ ending.Done → (printed : List ℕ) × RunsAll words reading history printed × Appends writing.old writing.new printed × (writing.now ≡ writing.before)
+  at_done is = let done = at ending.Done is in (done.printed, done.verdict.0, done.all, done.sound)
 
-  pub at_usage : end ≡ ending.Usage → (is_form words ≡ false) × (history ≡ []) × Appends writing.old writing.new (error_text ending.Usage)
+  pub at_usage : end ≡ ending.Usage → (is_replay words ≡ false) × (history ≡ []) × Appends writing.old writing.new (error_text ending.Usage)
   at_usage is =
-      let written = at ending.Usage is in
-      (written.verdict.0, written.verdict.1, subst (Appends writing.old writing.new) written.verdict.2 written.all)
+      let told = at ending.Usage is in
+      (told.verdict.0, told.verdict.1, subst (Appends writing.old writing.new) told.verdict.2 told.all)
 
-  pub at_refused : (error : ScriptError) → end ≡ ending.ScriptRefused error → Refuses words reading error × (history ≡ []) × Appends writing.old writing.new (line_text error)
+  pub at_refused : (error : ScriptError) → end ≡ ending.ScriptRefused error → ComesTo words reading (ending.ScriptRefused error) × (history ≡ []) × Appends writing.old writing.new (error_text (ending.ScriptRefused error))
   at_refused error is =
-      let written = at (ending.ScriptRefused error) is in
-      (written.verdict.0, written.verdict.1, subst (Appends writing.old writing.new) written.verdict.2 written.all)
+      let told = at (ending.ScriptRefused error) is in
+      (told.verdict.0, told.verdict.1, subst (Appends writing.old writing.new) told.verdict.2 told.all)
+
+  pub at_unfinished : (lines : ℕ) → end ≡ ending.Unfinished lines → ComesTo words reading (ending.Unfinished lines) × (history ≡ []) × Appends writing.old writing.new (error_text (ending.Unfinished lines))
+  at_unfinished lines is =
+      let told = at (ending.Unfinished lines) is in
+      (told.verdict.0, told.verdict.1, subst (Appends writing.old writing.new) told.verdict.2 told.all)
 
   pub at_read_fault : end ≡ ending.ReadFault → Faults words reading × (history ≡ []) × Appends writing.old writing.new (error_text ending.ReadFault)
   at_read_fault is =
-      let written = at ending.ReadFault is in
-      (written.verdict.0, written.verdict.1, subst (Appends writing.old writing.new) written.verdict.2 written.all)
+      let told = at ending.ReadFault is in
+      (told.verdict.0, told.verdict.1, subst (Appends writing.old writing.new) told.verdict.2 told.all)
 
   pub at_write_fault : end ≡ ending.WriteFault → Broken words reading writing history
   at_write_fault is = at ending.WriteFault is
 
--- the front that was read decides as the whole does
-take_twice : (n : ℕ) (xs : List ℕ) → take n (take n xs) ≡ take n xs
-take_twice n xs = take_all n (take n xs) (omega (arith, length-take n xs))
+  pub at_no_memory : end ≡ ending.NoMemory → history ≡ []
+  at_no_memory is = at ending.NoMemory is
 
-grammar-take : (bytes : List ℕ) → grammar (take (INPUT_BYTES + 1) bytes) ≡ grammar bytes
-grammar-take bytes = ap (λ (l : List ℕ). script_lines (lines_of l)) (take_twice (INPUT_BYTES + 1) bytes)
+  pub never : ((line : ℕ) → end ≡ ending.ScheduleRefused line → ⊥) × (end ≡ ending.DiskFault → ⊥)
+  never = (λ line is. (at (ending.ScheduleRefused line) is).verdict, λ is. (at ending.DiskFault is).verdict)
 
-grammar_read : (reading : Reading) (bytes input : List ℕ) → reading.left ≡ Some bytes → IsInputOf reading input → grammar input ≡ grammar bytes
-grammar_read reading bytes input known read =
-    let front : input ≡ take (INPUT_BYTES + 1) bytes = subst (λ (left : Option (List ℕ)). IfSome left (λ b. input ≡ take (INPUT_BYTES + 1) b)) known read in
-    ap grammar front ∙ grammar-take bytes
+-- the bytes up to the limit decide as all do
+module _ (decides : (bytes : List ℕ) → grammar (take 16777217 bytes) true ≡ grammar bytes true) (accepted : (bytes : List ℕ) (script : Script) → grammar bytes true ≡ Ok script → length bytes ≤ 16777216) where
+  result_decides : (bytes : List ℕ) (result : Result Script ScriptError) → grammar bytes true ≡ result → end_of_result (take 16777217 bytes) result ≡ end_of_result bytes result
+  result_decides bytes (Err error) is = refl
+  result_decides bytes (Ok script) is =
+      let short : length bytes ≤ 16777217 = omega (arith, accepted bytes script is) in
+      ap (λ (b : List ℕ). end_of_result b (Ok script)) (take_all 16777217 bytes short)
+
+  end_decides : (words : List (List ℕ)) (bytes : List ℕ) → end_of words (take 16777217 bytes) ≡ end_of words bytes
+  end_decides words bytes =
+      ap (λ (r : Result Script ScriptError). cond (is_replay words) (end_of_result (take 16777217 bytes) r) ending.Usage) (decides bytes)
+      ∙ ap (λ (e : End). cond (is_replay words) e ending.Usage) (result_decides bytes (grammar bytes true) refl)
+
+  -- what was read comes to the same end as all that the source had
+  comes_whole : (words : List (List ℕ)) (reading : Reading) (bytes : List ℕ) (end : End) → reading.left ≡ Some bytes → ComesTo words reading end → end_of words bytes ≡ end
+  comes_whole words reading bytes end known comes =
+      let front : comes.input ≡ take 16777217 bytes = subst (λ (left : Option (List ℕ)). IfSome left (λ b. comes.input ≡ take 16777217 b)) known comes.read.front in
+      sym (end_decides words bytes) ∙ ap (end_of words) (sym front) ∙ comes.comes
 
 -- what the source tells, with the bytes
 told : (left : Option (List ℕ)) (P : List ℕ → Type 0) → IsSomeAnd left P → (bytes : List ℕ) × (left ≡ Some bytes) × P bytes
@@ -64,56 +88,40 @@ told (Some bytes) P tells = (bytes, refl, tells)
 not_both : (b : Bool) → b ≡ true → b ≡ false → ⊥
 not_both b holds fails = cc
 
-not_ok_err : (r : Result Script ScriptError) (error : ScriptError) → IsOk r → r ≡ Err error → ⊥
-not_ok_err (Ok script) error ok is = cc
-not_ok_err (Err other) error ok is = cc
+usage_of : (words : List (List ℕ)) (bytes : List ℕ) → is_replay words ≡ false → end_of words bytes ≡ ending.Usage
+usage_of words bytes none = rw none refl
 
-same_error : (r : Result Script ScriptError) (x y : ScriptError) → r ≡ Err x → r ≡ Err y → x ≡ y
-same_error r x y first second = cc
+replays_of : (words : List (List ℕ)) (reading : Reading) (end : End) → is_replay words ≡ false → ComesTo words reading end → end ≡ ending.Usage
+replays_of words reading end none comes = sym comes.comes ∙ usage_of words comes.input none
 
-ok_and_err : (r : Result Script ScriptError) (script : Script) (error : ScriptError) → r ≡ Ok script → r ≡ Err error → ⊥
-ok_and_err r script error ok err = cc
+-- the outcome is as the run of the whole input comes to, where nothing fails
+module _ (decides : (bytes : List ℕ) → grammar (take 16777217 bytes) true ≡ grammar bytes true) (accepted : (bytes : List ℕ) (script : Script) → grammar bytes true ≡ Ok script → length bytes ≤ 16777216) (words : List (List ℕ)) (reading : Reading) (writing : Writing) where
+  as_whole : (end wanted : End) → Tells reading (λ input. end_of words input ≡ wanted) → ComesTo words reading end → EndsAs wanted end
+  as_whole end wanted tells comes =
+      let input = told reading.left (λ (bytes : List ℕ). end_of words bytes ≡ wanted) tells in
+      inl (sym (comes_whole decides accepted words reading input.0 end input.1 comes) ∙ input.2)
 
--- what was refused is what the whole input is refused for
-refused_for : (words : List (List ℕ)) (reading : Reading) (bytes : List ℕ) (error : ScriptError) → reading.left ≡ Some bytes → Refuses words reading error → grammar bytes ≡ Err error
-refused_for words reading bytes error known refuses =
-    sym (grammar_read reading bytes refuses.input known refuses.read) ∙ refuses.refused
-
--- what was run is what the whole input spells
-runs_for : (words : List (List ℕ)) (reading : Reading) (bytes : List ℕ) (history : List Event) (text : List ℕ) → reading.left ≡ Some bytes → (runs : Runs words reading history text) → grammar bytes ≡ Ok runs.script
-runs_for words reading bytes history text known runs =
-    let whole : bytes ≡ runs.input = subst (λ (left : Option (List ℕ)). IfSome left (λ b. b ≡ runs.input)) known runs.read in
-    ap grammar whole ∙ runs.spelled
-
--- a script is run to its end, where nothing fails
-pub completes : (words : List (List ℕ)) (reading : Reading) (writing : Writing) (end : End) (history : List Event) → IsOutcome words reading writing end history → is_form words ≡ true → Tells reading (λ input. IsOk (grammar input)) → IsSound reading writing → EndsAs ending.Done end
-completes words reading writing ending.Done history outcome form tells sound = inl refl
-completes words reading writing ending.Usage history outcome form tells sound = absurd (not_both (is_form words) form outcome.verdict.0)
-completes words reading writing (ending.ScriptRefused error) history outcome form tells sound =
-    let input = told reading.left (λ (l : List ℕ). IsOk (grammar l)) tells in
-    absurd (not_ok_err (grammar input.0) error input.2 (refused_for words reading input.0 error input.1 outcome.verdict.0))
-completes words reading writing ending.ReadFault history outcome form tells sound = absurd (sound.source outcome.verdict.0.risen)
-completes words reading writing ending.WriteFault history outcome form tells sound = absurd (sound.sink outcome.risen)
-completes words reading writing ending.NoMemory history outcome form tells sound = inr refl
+  pub completes : (end : End) (history : List Event) → IsOutcome words reading writing end history → (wanted : End) → Tells reading (λ input. end_of words input ≡ wanted) → IsSound reading writing → EndsAs wanted end
+  completes ending.Done history outcome wanted tells sound = as_whole ending.Done wanted tells outcome.verdict.1
+  completes (ending.ScriptRefused error) history outcome wanted tells sound = as_whole (ending.ScriptRefused error) wanted tells outcome.verdict.0
+  completes (ending.Unfinished lines) history outcome wanted tells sound = as_whole (ending.Unfinished lines) wanted tells outcome.verdict.0
+  completes ending.Usage history outcome wanted tells sound =
+      let input = told reading.left (λ (bytes : List ℕ). end_of words bytes ≡ wanted) tells in
+      inl (sym (usage_of words input.0 outcome.verdict.0) ∙ input.2)
+  completes ending.ReadFault history outcome wanted tells sound = absurd (sound.source outcome.verdict.0.risen)
+  completes ending.WriteFault history outcome wanted tells sound = absurd (sound.sink outcome.risen)
+  completes ending.DiskFault history outcome wanted tells sound = absurd outcome.verdict
+  completes ending.NoMemory history outcome wanted tells sound = inr refl
+  completes (ending.ScheduleRefused line) history outcome wanted tells sound = absurd outcome.verdict
 
 -- words that are no form are told so, where the sink doesn't fail
-pub completes_usage : (words : List (List ℕ)) (reading : Reading) (writing : Writing) (end : End) (history : List Event) → IsOutcome words reading writing end history → is_form words ≡ false → (Rises writing.before writing.now → ⊥) → EndsAs ending.Usage end
-completes_usage words reading writing ending.Done history outcome form sound = absurd (not_both (is_form words) outcome.verdict.form form)
-completes_usage words reading writing ending.Usage history outcome form sound = inl refl
-completes_usage words reading writing (ending.ScriptRefused error) history outcome form sound = absurd (not_both (is_form words) outcome.verdict.0.form form)
-completes_usage words reading writing ending.ReadFault history outcome form sound = absurd (not_both (is_form words) outcome.verdict.0.form form)
-completes_usage words reading writing ending.WriteFault history outcome form sound = absurd (sound outcome.risen)
-completes_usage words reading writing ending.NoMemory history outcome form sound = inr refl
-
--- an input that is no script is told its first wrong line, where nothing fails
-pub completes_refusal : (words : List (List ℕ)) (reading : Reading) (writing : Writing) (end : End) (history : List Event) → IsOutcome words reading writing end history → (error : ScriptError) → is_form words ≡ true → Tells reading (λ input. grammar input ≡ Err error) → IsSound reading writing → EndsAs (ending.ScriptRefused error) end
-completes_refusal words reading writing ending.Done history outcome error form tells sound =
-    let input = told reading.left (λ (l : List ℕ). grammar l ≡ Err error) tells in
-    absurd (ok_and_err (grammar input.0) outcome.verdict.script error (runs_for words reading input.0 history outcome.text input.1 outcome.verdict) input.2)
-completes_refusal words reading writing ending.Usage history outcome error form tells sound = absurd (not_both (is_form words) form outcome.verdict.0)
-completes_refusal words reading writing (ending.ScriptRefused other) history outcome error form tells sound =
-    let input = told reading.left (λ (l : List ℕ). grammar l ≡ Err error) tells in
-    inl (ap ending.ScriptRefused (same_error (grammar input.0) other error (refused_for words reading input.0 other input.1 outcome.verdict.0) input.2))
-completes_refusal words reading writing ending.ReadFault history outcome error form tells sound = absurd (sound.source outcome.verdict.0.risen)
-completes_refusal words reading writing ending.WriteFault history outcome error form tells sound = absurd (sound.sink outcome.risen)
-completes_refusal words reading writing ending.NoMemory history outcome error form tells sound = inr refl
+pub completes_usage : (words : List (List ℕ)) (reading : Reading) (writing : Writing) (end : End) (history : List Event) → IsOutcome words reading writing end history → is_replay words ≡ false → (Rises writing.before writing.now → ⊥) → EndsAs ending.Usage end
+completes_usage words reading writing ending.Usage history outcome none sound = inl refl
+completes_usage words reading writing ending.Done history outcome none sound = inl (replays_of words reading ending.Done none outcome.verdict.1)
+completes_usage words reading writing (ending.ScriptRefused error) history outcome none sound = inl (replays_of words reading (ending.ScriptRefused error) none outcome.verdict.0)
+completes_usage words reading writing (ending.Unfinished lines) history outcome none sound = inl (replays_of words reading (ending.Unfinished lines) none outcome.verdict.0)
+completes_usage words reading writing ending.ReadFault history outcome none sound = absurd (not_both (is_replay words) outcome.verdict.0.replay none)
+completes_usage words reading writing ending.WriteFault history outcome none sound = absurd (sound outcome.risen)
+completes_usage words reading writing ending.DiskFault history outcome none sound = absurd outcome.verdict
+completes_usage words reading writing ending.NoMemory history outcome none sound = inr refl
+completes_usage words reading writing (ending.ScheduleRefused line) history outcome none sound = absurd outcome.verdict

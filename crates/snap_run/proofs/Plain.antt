@@ -1,17 +1,17 @@
--- Facts about the plain states that effects lead to: all inodes are directories, and each that is named is there.
-use Rattle.std.proofs.Common.{◌≡◌, ℕ, zero, suc, List, [], ◌∷◌, ◌++◌, Bool, true, false, cond, Option, None, Some, Result, Ok, Err, refl, ◌∙◌, subst, arith}
+-- Facts about the plain states that effects lead to: all inodes are directories, and a walk ends at one that is there.
+use Rattle.std.proofs.Common.{◌≡◌, ℕ, zero, suc, List, [], ◌∷◌, ◌++◌, Bool, true, false, cond, Option, None, Some, Result, Ok, Err, refl, sym, ap, ◌∙◌, subst, arith}
 use Rattle.std.specs.Prelude.{◌||◌, fold, replicate}
-use Rattle.std.proofs.lemmas.List.Folds.{list_any-append}
+use Rattle.std.specs.List.{list_any}
 use Rattle.std.proofs.lemmas.Bool.Decides.{nat_tests}
 use Rattle.snap_ids.specs.declared.id.Ino.{Ino}
 use Rattle.snap_ids.specs.declared.id.TheConstants.{ROOT}
-use Rattle.snap_ids.specs.declared.entries.Kind.TheVariants.{Dir}
+use Rattle.snap_ids.specs.declared.values.Kind.TheVariants.{Dir}
 use Rattle.plain_types.specs.declared.answer.Refusal.{Refusal}
 use Rattle.plain_types.specs.declared.answer.Refusal.TheVariants.{NoEntry}
 use Rattle.plain_types.specs.declared.change.Change.{Change}
 use Rattle.plain_types.specs.declared.change.Change.TheVariants.{Mkdir, Mksnap}
 use Rattle.plain_types.specs.declared.change.Effect.{Effect}
-use Rattle.plain_tree.specs.State.{State, Entry, Inode, start, kind_in, has_inode, same_ino, is_at, lookup, walk, add, precedes, new_directory}
+use Rattle.plain_tree.specs.State.{State, Entry, Inode, start, kind_in, same_ino, is_there, is_at, lookup, walk, new_directory}
 use Rattle.plain_tree.specs.Change.{apply, make, is_refused, state_after}
 
 -- one more effect is applied to the state after the others
@@ -55,6 +55,7 @@ kind_of_dirs (inode ∷ inodes) all ino = elim (same_ino inode.ino ino) as (λ b
 dirs_kept : (state : State) (change : Change) → AllDirs state.inodes → AllDirs (make state change).inodes
 dirs_kept state (Mkdir dir name ino) all = dirs_push state.inodes ino all
 dirs_kept state (Mksnap id dir name) all = all
+dirs_kept state change all = all
 
 -- all inodes are directories
 pub kinds_after : (done : List Effect) (ino : Ino) → kind_in (state_after done).inodes ino ≡ Dir
@@ -68,19 +69,6 @@ kinds_shown (suc n) root ino = elim (same_ino root ino) as (λ b. cond b Dir (ki
   | false ↦ kinds_shown n root ino
 ]
 
--- each entry names an inode that is there
-abbrev AllThere : List Inode → List Entry → Type 0
-AllThere inodes [] = Unit {0}
-AllThere inodes (entry ∷ entries) = (has_inode inodes entry.ino ≡ true) × AllThere inodes entries
-
--- the root is there, and what the entries name
-record AreThere (state : State) : Type 0 where
-  root : has_inode state.inodes ROOT ≡ true
-  named : AllThere state.inodes state.entries
-
-has_more : (inodes : List Inode) (made ino : Ino) → has_inode inodes ino ≡ true → has_inode (inodes ++ new_directory made ∷ []) ino ≡ true
-has_more inodes made ino is = list_any-append (λ (inode : Inode). same_ino inode.ino ino) inodes (new_directory made ∷ []) ∙ rw is refl
-
 or_true : (b : Bool) → (b || true) ≡ true
 or_true true = refl
 or_true false = refl
@@ -88,47 +76,24 @@ or_true false = refl
 same_itself : (ino : Ino) → same_ino ino ino ≡ true
 same_itself ino = grind (arith, nat_tests)
 
-has_made : (inodes : List Inode) (ino : Ino) → has_inode (inodes ++ new_directory ino ∷ []) ino ≡ true
-has_made inodes ino = list_any-append (λ (inode : Inode). same_ino inode.ino ino) inodes (new_directory ino ∷ []) ∙ rw (same_itself ino) (or_true (has_inode inodes ino))
-
-there_more : (inodes : List Inode) (made : Ino) (entries : List Entry) → AllThere inodes entries → AllThere (inodes ++ new_directory made ∷ []) entries
-there_more inodes made [] all = tt
-there_more inodes made (entry ∷ entries) all = (has_more inodes made entry.ino all.0, there_more inodes made entries all.1)
-
-there_add : (inodes : List Inode) (new : Entry) (entries : List Entry) → has_inode inodes new.ino ≡ true → AllThere inodes entries → AllThere inodes (add new entries)
-there_add inodes new [] is all = (is, tt)
-there_add inodes new (entry ∷ entries) is all = elim (precedes new entry) as (λ b. AllThere inodes (cond b (new ∷ entry ∷ entries) (entry ∷ add new entries))) [
-  | true ↦ (is, all)
-  | false ↦ (all.0, there_add inodes new entries is all.1)
-]
-
-there_kept : (state : State) (change : Change) → AreThere state → AreThere (make state change)
-there_kept state (Mkdir dir name ino) there = record {
-  root = has_more state.inodes ino ROOT there.root;
-  named = there_add (state.inodes ++ new_directory ino ∷ []) _ state.entries (has_made state.inodes ino) (there_more state.inodes ino state.entries there.named);
-}
-there_kept state (Mksnap id dir name) there = record { root = there.root; named = there.named }
-
-lookup_there : (inodes : List Inode) (entries : List Entry) (dir : Ino) (name : List ℕ) (ino : Ino) → AllThere inodes entries → lookup entries dir name ≡ Some ino → has_inode inodes ino ≡ true
-lookup_there inodes [] dir name ino all found = cc
-lookup_there inodes (entry ∷ entries) dir name ino all found =
-    elim (is_at dir name entry) as (λ b. cond b (Some entry.ino) (lookup entries dir name) ≡ Some ino → has_inode inodes ino ≡ true) [
-      | true ↦ λ here. let same : entry.ino ≡ ino = cc in subst (λ (x : Ino). has_inode inodes x ≡ true) same all.0
-      | false ↦ λ later. lookup_there inodes entries dir name ino all.1 later
+-- what a name has in a directory is named by an entry
+lookup_there : (entries : List Entry) (dir : Ino) (name : List ℕ) (ino : Ino) → lookup entries dir name ≡ Some ino → list_any (λ entry. same_ino entry.ino ino) entries ≡ true
+lookup_there [] dir name ino found = cc
+lookup_there (entry ∷ entries) dir name ino found =
+    elim (is_at dir name entry) as (λ b. cond b (Some entry.ino) (lookup entries dir name) ≡ Some ino → (same_ino entry.ino ino || list_any (λ other. same_ino other.ino ino) entries) ≡ true) [
+      | true ↦ λ here. let same : entry.ino ≡ ino = cc in rw (ap (same_ino entry.ino) (sym same) ∙ same_itself entry.ino) refl
+      | false ↦ λ later. rw (lookup_there entries dir name ino later) (or_true (same_ino entry.ino ino))
     ] found
 
-walk_there : (inodes : List Inode) (entries : List Entry) → AllThere inodes entries → (dir : Ino) (path : List (List ℕ)) (ino : Ino) → has_inode inodes dir ≡ true → walk entries dir path ≡ Ok ino → has_inode inodes ino ≡ true
-walk_there inodes entries all dir [] ino is found =
-    let same : dir ≡ ino = cc in subst (λ (x : Ino). has_inode inodes x ≡ true) same is
-walk_there inodes entries all dir (name ∷ path) ino is found =
-    by_lookup (lookup entries dir name) (λ x here. lookup_there inodes entries dir name x all here) (λ x there. walk_there inodes entries all x path ino there) found
+walk_there : (entries : List Entry) (dir : Ino) (path : List (List ℕ)) (ino : Ino) → is_there entries dir ≡ true → walk entries dir path ≡ Ok ino → is_there entries ino ≡ true
+walk_there entries dir [] ino there found = let same : dir ≡ ino = cc in subst (λ (x : Ino). is_there entries x ≡ true) same there
+walk_there entries dir (name ∷ path) ino there found =
+    by_lookup (lookup entries dir name) (λ x here. rw (lookup_there entries dir name x here) (or_true (same_ino x ROOT))) (λ x. walk_there entries x path ino) found
   where
-    by_lookup : (o : Option Ino) → ((x : Ino) → o ≡ Some x → has_inode inodes x ≡ true) → ((x : Ino) → has_inode inodes x ≡ true → walk entries x path ≡ Ok ino → has_inode inodes ino ≡ true) → (elim o as (λ _. Result Ino Refusal) [ None ↦ Err NoEntry | Some x ↦ walk entries x path ]) ≡ Ok ino → has_inode inodes ino ≡ true
-    by_lookup None there go_on e = cc
-    by_lookup (Some x) there go_on e = go_on x (there x refl) e
+    by_lookup : (o : Option Ino) → ((x : Ino) → o ≡ Some x → is_there entries x ≡ true) → ((x : Ino) → is_there entries x ≡ true → walk entries x path ≡ Ok ino → is_there entries ino ≡ true) → (elim o as (λ _. Result Ino Refusal) [ None ↦ Err NoEntry | Some x ↦ walk entries x path ]) ≡ Ok ino → is_there entries ino ≡ true
+    by_lookup None named go_on e = cc
+    by_lookup (Some x) named go_on e = go_on x (named x refl) e
 
--- a walk from the root ends at an inode that is there
-pub walked_there : (done : List Effect) (path : List (List ℕ)) (ino : Ino) → walk (state_after done).entries ROOT path ≡ Ok ino → has_inode (state_after done).inodes ino ≡ true
-walked_there done path ino found =
-    let there = after_all AreThere (record { root = refl; named = tt }) there_kept done in
-    walk_there (state_after done).inodes (state_after done).entries there.named ROOT path ino there.root found
+-- a walk from the root ends at a directory that is there
+pub walked_there : (entries : List Entry) (path : List (List ℕ)) (ino : Ino) → walk entries ROOT path ≡ Ok ino → is_there entries ino ≡ true
+walked_there entries path ino found = walk_there entries ROOT path ino refl found

@@ -24,7 +24,7 @@ appends_more (Some all) (Some more) (Some end) xs ys first next = next ∙ ap (�
 pub appends_some : (a b c : Option (List ℕ)) (text : List ℕ) (k : ℕ) → k ≤ length text → Appends a b (take k text) → AppendsSome b c (drop k text) → AppendsSome a c text
 appends_some None b c text k within first next = tt
 appends_some (Some all) None c text k within first next = absurd first
-appends_some (Some all) (Some more) None text k within first next = tt
+appends_some (Some all) (Some more) None text k within first next = absurd next
 appends_some (Some all) (Some more) (Some end) text k within first next =
     (k + next.0, omega (arith, next.1, length-drop k text), next.2 ∙ ap (λ (l : List ℕ). l ++ take next.0 (drop k text)) first ∙ append_assoc all (take k text) (take next.0 (drop k text)) ∙ ap (λ (l : List ℕ). all ++ l) (sym (take-add k next.0 text)))
 

@@ -1,73 +1,43 @@
 -- What running an input comes to is what the whole run comes to.
-use Rattle.std.proofs.Common.{◌≡◌, ℕ, ◌+◌, ◌<◌, ◌≤◌, List, [], ◌∷◌, ◌++◌, length, take, true, false, cond, Option, None, Some, Result, Ok, Err, refl, sym, ap, ◌∙◌, subst, arith}
-use Rattle.std.specs.Prelude.{IfSome, nat_lt, bytes_eq, codes}
+use Rattle.std.proofs.Common.{◌≡◌, ℕ, zero, suc, ◌+◌, ◌<◌, ◌≤◌, List, [], ◌∷◌, length, take, get_or, ltb, Bool, true, false, not, cond, Option, None, Some, Result, Ok, Err, refl, sym, ap, ◌∙◌, subst, arith}
+use Rattle.std.specs.Prelude.{IfSome, IfOk, ◌&&◌, ◌==◌}
+use Rattle.std.specs.List.{AllByRecursion, position, position_or_len}
+use Rattle.std.proofs.lemmas.Bool.Decides.{nat_tests}
 use Rattle.std.proofs.lemmas.List.{take_all, length-take}
 use Rattle.std.specs.Io.KnownBytes.{IsAtEnd}
 use Rattle.plain_types.specs.declared.history.Event.{Event}
 use Rattle.plain_types.specs.declared.script.Line.{Line}
 use Rattle.plain_types.specs.declared.script.Script.{Script}
+use Rattle.plain_tree.specs.Line.{is_served}
 use Rattle.plain_tree.specs.Direct.{OfOneClient}
-use Rattle.plain_tree.proofs.Replies.{from_snap, from_live}
 use Rattle.script_text.specs.declared.error.ScriptError.{ScriptError}
-use Rattle.script_text.specs.declared.error.ScriptError.TheVariants.{BadLine}
 use Rattle.script_text.specs.declared.outcome.End.{End}
 use Rattle.script_text.specs.declared.outcome.End.TheVariants as ending
-use Rattle.script_text.specs.declared.parser.TheConstants.{INPUT_BYTES, CLIENT_LINES}
-use Rattle.script_text.specs.Grammar.{lines_of, line_of, after_all, after_schedule, with_line, client_lines, after_header, script_lines, grammar}
-use Rattle.script_text.proofs.Short.{accepted_short}
-use Rattle.snap_run.specs.Run.{is_form, Reading, IsInputOf, IsVerdict, Replays}
+use Rattle.script_text.specs.Grammar.{grammar}
+use Rattle.snap_run.specs.Ends.{is_taken, IsTaken, first_unserved, is_unfinished, end_with, end_of_result, is_replay}
+use Rattle.snap_run.specs.declared.verdict.Verdict.{Verdict}
+use Rattle.snap_run.specs.Run.{Reading, IsInputOf, ComesTo, IsReport, IsVerdict}
 
--- all lines of an accepted script are those of client 1
-one_more : (lines : List (ℕ × Line)) (line : Line) → OfOneClient lines → OfOneClient (lines ++ (1, line) ∷ [])
-one_more [] line all = (refl, tt)
-one_more (first ∷ lines) line all = (all.0, one_more lines line all.1)
+-- what running an input can come to
+abbrev IsPossible : End → Type 0
+IsPossible ending.Done = Unit {0}
+IsPossible (ending.ScriptRefused error) = Unit {0}
+IsPossible (ending.Unfinished lines) = Unit {0}
+IsPossible end = ⊥
 
-same_script : (x y : Script) → ◌≡◌ {A = Result Script ScriptError} (Ok x) (Ok y) → x ≡ y
-same_script x y e = cc
+possible_with : (script : Script) (first : Option ℕ) → IsPossible (end_with script first)
+possible_with script (Some number) = tt
+possible_with script None = elim (is_unfinished script) as (λ t. IsPossible (cond t (ending.Unfinished script.input_lines) ending.Done)) [ true ↦ tt | false ↦ tt ]
 
-of_all : (number : ℕ) (lines : List (ℕ × Line)) (rest : List (List ℕ)) (script : Script) → OfOneClient lines → after_all number lines rest ≡ Ok script → OfOneClient script.lines
-of_all number lines [] script all e = subst (λ (s : Script). OfOneClient s.lines) (same_script _ script e) all
-of_all number lines (line ∷ rest) script all e = cc
+possible_of : (input : List ℕ) (result : Result Script ScriptError) → IsPossible (end_of_result input result)
+possible_of input (Err error) = tt
+possible_of input (Ok script) = possible_with script (first_unserved input script)
 
-of_schedule : (number : ℕ) (lines : List (ℕ × Line)) (rest : List (List ℕ)) (script : Script) → OfOneClient lines → after_schedule number lines rest ≡ Ok script → OfOneClient script.lines
-of_schedule number lines [] script all e = cc
-of_schedule number lines (line ∷ rest) script all e =
-    elim (bytes_eq line (codes "all")) as (λ b. cond b (after_all number lines rest) (Err (BadLine number)) ≡ Ok script → OfOneClient script.lines) [
-      | true ↦ λ here. of_all number lines rest script all here
-      | false ↦ λ here. cc
-    ] e
+possible : (input : List ℕ) (end : End) → end ≡ end_of_result input (grammar input true) → IsPossible end
+possible input end is = subst IsPossible (sym is) (possible_of input (grammar input true))
 
-of_line : (number : ℕ) (asked : Option Line) (go_on : Line → Result Script ScriptError) (script : Script) → ((line : Line) → go_on line ≡ Ok script → OfOneClient script.lines) → with_line number asked go_on ≡ Ok script → OfOneClient script.lines
-of_line number None go_on script each e = cc
-of_line number (Some line) go_on script each e = each line e
-
-of_lines : (number : ℕ) (sofar : List (ℕ × Line)) (lines : List (List ℕ)) (script : Script) → OfOneClient sofar → client_lines number sofar lines ≡ Ok script → OfOneClient script.lines
-of_lines number sofar [] script all e = cc
-of_lines number sofar (line ∷ rest) script all e =
-    let go_on : Line → Result Script ScriptError = λ asked. client_lines (number + 1) (sofar ++ (1, asked) ∷ []) rest in
-    let next : with_line number (line_of line) go_on ≡ Ok script → OfOneClient script.lines = of_line number (line_of line) go_on script (λ asked here. of_lines (number + 1) (sofar ++ (1, asked) ∷ []) rest script (one_more sofar asked all) here) in
-    elim (bytes_eq line (codes "schedule")) as (λ b. cond b (after_schedule (number + 1) sofar rest) (cond (nat_lt (length sofar) CLIENT_LINES) (with_line number (line_of line) go_on) (Err (BadLine number))) ≡ Ok script → OfOneClient script.lines) [
-      | true ↦ λ here. of_schedule (number + 1) sofar rest script all here
-      | false ↦ λ here. elim (nat_lt (length sofar) CLIENT_LINES) as (λ b. cond b (with_line number (line_of line) go_on) (Err (BadLine number)) ≡ Ok script → OfOneClient script.lines) [
-        | true ↦ next
-        | false ↦ λ there. cc
-      ] here
-    ] e
-
-of_header : (lines : List (List ℕ)) (script : Script) → after_header lines ≡ Ok script → OfOneClient script.lines
-of_header [] script e = subst (λ (s : Script). OfOneClient s.lines) (same_script _ script e) tt
-of_header (line ∷ rest) script e = of_lines 2 [] (line ∷ rest) script tt e
-
-of_script : (lines : List (List ℕ)) (script : Script) → script_lines lines ≡ Ok script → OfOneClient script.lines
-of_script [] script e = cc
-of_script (line ∷ rest) script e =
-    elim (bytes_eq line (codes "clients 1")) as (λ b. cond b (after_header rest) (Err (BadLine 1)) ≡ Ok script → OfOneClient script.lines) [
-      | true ↦ λ here. of_header rest script here
-      | false ↦ λ here. cc
-    ] e
-
-pub of_one_client : (input : List ℕ) (script : Script) → grammar input ≡ Ok script → OfOneClient script.lines
-of_one_client input script spelled = of_script (lines_of (take (INPUT_BYTES + 1) input)) script spelled
+comes_to : (words : List (List ℕ)) (reading : Reading) (input : List ℕ) (end : End) → is_replay words ≡ true → IsInputOf reading input → end ≡ end_of_result input (grammar input true) → ComesTo words reading end
+comes_to words reading input end replay read is = record { input = input; read = read; comes = rw replay (sym is) }
 
 -- a front that is shorter than the limit is the whole
 whole_front : (bytes input : List ℕ) (n : ℕ) → length input < n → input ≡ take n bytes → bytes ≡ input
@@ -75,29 +45,82 @@ whole_front bytes input n short front =
     let small : length bytes ≤ n = omega (arith, ap length front, length-take n bytes) in
     sym (front ∙ take_all n bytes small)
 
-whole_input : (left : Option (List ℕ)) (input : List ℕ) → length input ≤ INPUT_BYTES → IfSome left (λ bytes. input ≡ take (INPUT_BYTES + 1) bytes) → IfSome left (λ bytes. bytes ≡ input)
+whole_input : (left : Option (List ℕ)) (input : List ℕ) → length input ≤ 16777216 → IfSome left (λ bytes. input ≡ take 16777217 bytes) → IfSome left (λ bytes. bytes ≡ input)
 whole_input None input short front = tt
-whole_input (Some bytes) input short front = whole_front bytes input (INPUT_BYTES + 1) (omega arith) front
+whole_input (Some bytes) input short front = whole_front bytes input 16777217 (omega arith) front
 
 -- an input that was read and run gives the verdict on the run
-pub verdict_from_replays : (words : List (List ℕ)) (reading : Reading) (input : List ℕ) (end : End) (history : List Event) (text : List ℕ) → is_form words ≡ true → IsInputOf reading input → (length input ≤ INPUT_BYTES → IsAtEnd reading.after) → Replays input end history text → IsVerdict words reading end history text
-verdict_from_replays words reading input ending.Done history text form read at_end runs =
-    let short = accepted_short input runs.script runs.spelled in
-    record {
-      input = input;
-      script = runs.script;
-      form = form;
-      read = whole_input reading.left input short read;
-      to_the_end = at_end short;
-      spelled = runs.spelled;
-      legal = runs.legal;
-      from_snap = from_snap history runs.script.lines runs.legal;
-      from_live = from_live history runs.script.lines runs.legal;
-      printed = runs.printed;
-    }
-verdict_from_replays words reading input (ending.ScriptRefused error) history text form read at_end refuses =
-    (record { input = input; form = form; read = read; refused = refuses.0 }, refuses.1, refuses.2)
-verdict_from_replays words reading input ending.Usage history text form read at_end never = absurd never
-verdict_from_replays words reading input ending.ReadFault history text form read at_end never = absurd never
-verdict_from_replays words reading input ending.WriteFault history text form read at_end never = never
-verdict_from_replays words reading input ending.NoMemory history text form read at_end never = never
+pub verdict_from_run : (words : List (List ℕ)) (reading : Reading) (input : List ℕ) (end : End) (history : List Event) (printed : List ℕ) → is_replay words ≡ true → IsInputOf reading input → (length input ≤ 16777216 → IsAtEnd reading.after) → (end ≡ ending.Done → length input ≤ 16777216) → end ≡ end_of_result input (grammar input true) → IsReport input end history printed → IsVerdict words reading end history printed
+verdict_from_run words reading input ending.Done history printed replay read at_end short is report = (
+  record {
+    input = input;
+    replay = replay;
+    whole = whole_input reading.left input (short refl) read.front;
+    to_the_end = at_end (short refl);
+    sound = read.sound;
+    runs = report;
+  },
+  comes_to words reading input ending.Done replay read is,
+)
+verdict_from_run words reading input (ending.ScriptRefused error) history printed replay read at_end short is report =
+    (comes_to words reading input (ending.ScriptRefused error) replay read is, report.0, report.1)
+verdict_from_run words reading input (ending.Unfinished lines) history printed replay read at_end short is report =
+    (comes_to words reading input (ending.Unfinished lines) replay read is, report.0, report.1)
+verdict_from_run words reading input ending.Usage history printed replay read at_end short is report = absurd (possible input ending.Usage is)
+verdict_from_run words reading input ending.ReadFault history printed replay read at_end short is report = absurd (possible input ending.ReadFault is)
+verdict_from_run words reading input ending.WriteFault history printed replay read at_end short is report = possible input ending.WriteFault is
+verdict_from_run words reading input ending.DiskFault history printed replay read at_end short is report = possible input ending.DiskFault is
+verdict_from_run words reading input ending.NoMemory history printed replay read at_end short is report = possible input ending.NoMemory is
+verdict_from_run words reading input (ending.ScheduleRefused line) history printed replay read at_end short is report = possible input (ending.ScheduleRefused line) is
+
+-- the same, from the clauses of a call
+pub verdict_from_clauses : {E : Type 0} (words : List (List ℕ)) (reading : Reading) (input : List ℕ) (result : Result Verdict E) → is_replay words ≡ true → IsInputOf reading input → (length input ≤ 16777216 → IsAtEnd reading.after) → IfOk result (λ verdict. verdict.end ≡ end_of_result input (grammar input true)) → IfOk result (λ verdict. IsReport input verdict.end verdict.history verdict.text.items) → IfOk result (λ verdict. verdict.end ≡ ending.Done → length input ≤ 16777216) → IfOk result (λ verdict. IsVerdict words reading verdict.end verdict.history verdict.text.items)
+verdict_from_clauses words reading input (Ok verdict) replay read at_end is report short =
+    verdict_from_run words reading input verdict.end verdict.history verdict.text.items replay read at_end short is report
+verdict_from_clauses words reading input (Err error) replay read at_end is report short = tt
+
+both : (a b : Bool) → (a && b) ≡ true → (a ≡ true) × (b ≡ true)
+both true b h = (refl, h)
+both false b h = cc
+
+not_not : (b : Bool) → not b ≡ false → b ≡ true
+not_not true h = refl
+not_not false h = cc
+
+-- lines that are taken are those of client 1
+pub of_one_client : (lines : List (ℕ × Line)) → AllByRecursion IsTaken lines → OfOneClient lines
+of_one_client [] all = tt
+of_one_client (line ∷ lines) all =
+    (let test : (line.0 == 1) ≡ true = (both (line.0 == 1) (is_served line.1) all.0).0 in grind (arith, nat_tests), of_one_client lines all.1)
+
+-- where none is found that isn't taken, all are
+pub all_taken : (lines : List (ℕ × Line)) → position (λ line. not (is_taken line)) lines ≡ None → AllByRecursion IsTaken lines
+all_taken lines none = all_taken_long lines (behind_all (position_or_len (λ line. not (is_taken line)) lines) (length lines) none)
+  where
+    behind_all : (n m : ℕ) → cond (ltb n m) (Some n) None ≡ None → m ≤ n
+    behind_all n m is = by_test (ltb n m) refl is
+      where
+        by_test : (t : Bool) → ltb n m ≡ t → cond t (Some n) None ≡ None → m ≤ n
+        by_test true test here = cc
+        by_test false test here = grind (arith, nat_tests)
+
+    all_taken_long : (lines : List (ℕ × Line)) → length lines ≤ position_or_len (λ line. not (is_taken line)) lines → AllByRecursion IsTaken lines
+    all_taken_long [] long = tt
+    all_taken_long (line ∷ lines) long = by_test (not (is_taken line)) refl long (all_taken_long lines)
+      where
+        by_test : (t : Bool) → not (is_taken line) ≡ t → suc (length lines) ≤ cond (not t) (1 + position_or_len (λ other. not (is_taken other)) lines) 0 → (length lines ≤ position_or_len (λ other. not (is_taken other)) lines → AllByRecursion IsTaken lines) → AllByRecursion IsTaken (line ∷ lines)
+        by_test true is le rest = absurd (omega arith)
+        by_test false is le rest = (not_not (is_taken line) is, rest (omega arith))
+
+-- each of them is
+pub taken_at : (lines : List (ℕ × Line)) (i : ℕ) (line : ℕ × Line) → AllByRecursion IsTaken lines → i < length lines → line ≡ get_or lines i line → IsTaken line
+taken_at [] i line all within is = absurd (omega arith)
+taken_at (first ∷ lines) zero line all within is = subst IsTaken (sym is) all.0
+taken_at (first ∷ lines) (suc i) line all within is = taken_at lines i line all.1 (omega arith) is
+
+-- a line that is taken is one of client 1, and is served
+pub of_one : (line : ℕ × Line) → IsTaken line → line.0 ≡ 1
+of_one line taken = let test : (line.0 == 1) ≡ true = (both (line.0 == 1) (is_served line.1) taken).0 in grind (arith, nat_tests)
+
+pub served : (line : ℕ × Line) → IsTaken line → is_served line.1 ≡ true
+served line taken = (both (line.0 == 1) (is_served line.1) taken).1

@@ -16,7 +16,7 @@ use Rattle.plain_types.specs.declared.script.Line.TheVariants as line
 use Rattle.plain_tree.specs.State.{State, Snapshot, kind_in, lookup, walk, listing, next_ino, next_snap}
 use Rattle.plain_tree.specs.Change.{has_snap}
 use Rattle.plain_tree.specs.Line.{at_end, new_entry, new_snap, mkdir_last, mkdir, list_from, decide, answer_of}
-use Rattle.plain_tree.specs.Legal.{answer_to, list_answer, snap_answer, live_answer, in_tree, snap_named}
+use Rattle.plain_tree.specs.Legal.{line_answer, list_answer, snap_answer, live_answer, in_tree, snap_named}
 
 -- the states show the same: entries, what each inode is, how many there are, and the snapshots
 pub record SameView (a b : State) : Type 0 where
@@ -60,6 +60,7 @@ module _ (a b : State) (same : SameView a b) where
   pub decide_same : (id : SnapId) (line : Line) → decide a id line ≡ decide b id line
   decide_same id (line.Mkdir path) = mkdir_same id (place_of path)
   decide_same id (line.List path) = list_same a b same.entries same.kinds ROOT path
+  decide_same id line = refl
 
   -- and the ids of the next snapshots
   pub next_snap_same : next_snap a ≡ next_snap b
@@ -83,11 +84,11 @@ module _ (a b : State) (same : SameView a b) where
         by_walk (Err refusal) = refl
 
     -- and the answers, where the trees of the snapshots list alike
-    pub answer_same : (client : ℕ) (line : Line) → answer_to a trees client line ≡ answer_to b others client line
-    answer_same client (line.Mkdir path) = live_same client (line.Mkdir path)
+    pub answer_same : (client : ℕ) (line : Line) → line_answer a trees client line ≡ line_answer b others client line
     answer_same client (line.List path) = by_place (place_of path)
       where
         by_place : (place : Place) → list_answer a trees client path place ≡ list_answer b others client path place
         by_place (Live there) = live_same client (line.List path)
         by_place (Snaps dir) = live_same client (line.List path)
         by_place (InSnap dir name below) = snap_answer_same dir name below
+    answer_same client line = live_same client line

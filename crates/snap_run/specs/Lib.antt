@@ -1,5 +1,5 @@
 pub mod Direct
+pub mod Ends
 pub mod Event
 pub mod Run
 pub mod Server
-pub mod Text

@@ -1,11 +1,10 @@
 -- What the fields of a server show.
-use Rattle.std.specs.Prelude.{◌≡◌, ◌≤◌, ◌<◌, ℕ, ◌+◌, Bool, true, ◌&&◌, nat_lt, List, [], ◌∷◌, ◌++◌, length, map, bytes_eq, Option, None, Some}
-use Rattle.snap_ids.specs.declared.id.Ino.{Ino}
+use Rattle.std.specs.Prelude.{◌≡◌, ◌≤◌, ◌<◌, ℕ, ◌+◌, Bool, true, ◌&&◌, nat_lt, List, [], ◌∷◌, ◌++◌, length, map, Option, Some}
 use Rattle.snap_ids.specs.declared.id.SnapId.{SnapId}
 use Rattle.snap_ids.specs.declared.id.TheConstants.{NOSNAP}
 use Rattle.plain_types.specs.declared.change.Change.{Change}
 use Rattle.plain_types.specs.declared.change.Change.TheVariants.{Mkdir, Mksnap}
-use Rattle.plain_tree.specs.State.{Entry, State, Snapshot, same_ino, add}
+use Rattle.plain_tree.specs.State.{Entry, State, Snapshot, add}
 use Rattle.dentry_tree.specs.Dentries.{entries_at}
 use Rattle.snap_run.specs.declared.direct.Snapshot.{Snapshot as Kept}
 use Rattle.snap_run.specs.declared.direct.Direct.{Direct}
@@ -15,10 +14,6 @@ use Rattle.snap_run.specs.Direct.{shown, shown_tree, applied_of}
 -- a snapshot of the plain state; none is removed yet
 abbrev pub seen : Kept → Snapshot
 seen kept = record { id = kept.id; root = kept.dir; name = kept.name; live = true }
-
--- the snapshot is a live one of the directory, and has the name
-abbrev pub is_named : Ino → List ℕ → Snapshot → Bool
-is_named dir name snap = snap.live && same_ino snap.root dir && bytes_eq snap.name name
 
 -- the entries as they stood at an id
 abbrev pub entries_of : Direct → SnapId → List Entry
@@ -62,8 +57,8 @@ pub record Stays (old new : Direct) : Type 0 where
   pub snaps : snaps_of new ≡ snaps_of old
   pub made : new.made ≡ old.made
 
--- the change was made, and nothing else
+-- the change was made, and nothing else; changes that this server never makes leave it
 abbrev pub Makes : Direct → Direct → Option Change → Type 0
-Makes old new None = Stays old new
 Makes old new (Some (Mkdir dir name ino)) = PutsEntry old new (record { dir = dir; name = name; ino = ino })
 Makes old new (Some (Mksnap id dir name)) = PutsSnap old new (record { id = id; root = dir; name = name; live = true })
+Makes old new change = Stays old new

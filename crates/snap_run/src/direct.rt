@@ -1,5 +1,5 @@
 // A server that answers each line of one client at once.
-ghost use Rattle.std.specs.Prelude.{◌≡◌, ◌<◌, ◌+◌, [], map, vec_len, Ok, Err, Option, Some, None, Result, IsTrue, IfOk, option_map};
+ghost use Rattle.std.specs.Prelude.{◌≡◌, ◌<◌, ◌+◌, [], true, map, vec_len, is_some, IsTrue, IfOk, OnErr, option_map};
 ghost use Rattle.snap_ids.specs.declared.id.TheConstants.{NOSNAP, ROOT};
 ghost use Rattle.plain_types.specs.declared.decision.Decision.TheVariants.{Say};
 ghost use Rattle.plain_types.specs.declared.answer.Answer.TheVariants.{Refused};
@@ -7,7 +7,8 @@ ghost use Rattle.plain_tree.specs.Line as plain;
 ghost use Rattle.plain_tree.specs.State as state;
 ghost use Rattle.plain_tree.specs.Legal.{snap_named};
 ghost use Rattle.snap_run.specs.Direct.{StandsFor, applied_of, shown_tree};
-ghost use Rattle.snap_run.specs.Server.{seen, is_named, entries_of, snaps_of, live_of, tree_of, count_of, has_room, Makes};
+ghost use Rattle.plain_tree.specs.State.{is_named};
+ghost use Rattle.snap_run.specs.Server.{seen, entries_of, snaps_of, live_of, tree_of, count_of, has_room, Makes};
 
 use dentry_tree::{DirTree, TreeError};
 use plain_types::{Answer, Change, Decision, Refusal};
@@ -31,7 +32,8 @@ pub struct Direct {
     pub made: u64,
 }
 
-/// So many directories and so many snapshots may be made: no number that is given reaches 2^62.
+/// Where so many directories or so many snapshots were made, there is no room for another one: no number that is given
+/// reaches 2^62.
 const LIMIT: u64 = 4_000_000_000_000_000_000;
 
 // The snapshot is one of the directory, and has the name.
@@ -135,10 +137,17 @@ impl Direct {
     pub fn new_entry(&mut self, dir: Ino, name: &Name) -> Result<Decision, NoMemory>
         requires { IsTrue (has_room self.old) }
         ensures decided { IfOk result (λ decision. decision ≡ plain.new_entry (live_of self.old) name.now dir) }
+
+        // A refusal needs no memory.
+        ensures no_memory { OnErr result (is_some (plain.change_of
+            (plain.new_entry (live_of self.old) name.now dir)) ≡ true) }
         ensures made { IfOk result (λ decision. Makes self.old self.new (plain.change_of decision)) }
     {
         if !name.is_new() {
             return Ok(refused(Refusal::BadName));
+        }
+        if self.tree.at(dir, name, NOSNAP).is_some() {
+            return Ok(refused(Refusal::Exists));
         }
         let ino = self.next_ino();
         let applied = self.applied();
@@ -149,8 +158,7 @@ impl Direct {
                 self.made += 1;
                 Ok(Decision::Put(Change::Mkdir { dir, name, ino }))
             }
-            Err(TreeError::Exists) => Ok(refused(Refusal::Exists)),
-            Err(TreeError::NoEntry) => unreachable!(),
+            Err(TreeError::Exists | TreeError::NoEntry) => unreachable!(),
             Err(TreeError::NoMemory) => Err(NoMemory),
         }
     }
@@ -160,6 +168,10 @@ impl Direct {
         requires { IsTrue (has_room self.old) }
         ensures decided { IfOk result (λ decision.
             decision ≡ plain.new_snap (live_of self.old) (state.next_snap (live_of self.old)) name.now dir) }
+
+        // A refusal needs no memory.
+        ensures no_memory { OnErr result (is_some (plain.change_of
+            (plain.new_snap (live_of self.old) (state.next_snap (live_of self.old)) name.now dir)) ≡ true) }
         ensures made { IfOk result (λ decision. Makes self.old self.new (plain.change_of decision)) }
     {
         if !name.is_new_snap() {

@@ -3,12 +3,13 @@
 
 mod direct;
 mod edge;
+mod ends;
 mod run;
 mod serve;
-mod text;
 mod verdict;
 
 pub use run::run_tool;
+pub use verdict::{Report, run_bytes};
 
 #[cfg(test)]
 mod tests;

@@ -1,11 +1,12 @@
 // The program's one call.
-ghost use Rattle.std.specs.Prelude.{◌≡◌, ◌≢◌, ℕ, List, [], true, false, Ok, Err, IsOk};
+ghost use Rattle.std.specs.Prelude.{◌≡◌, ◌≢◌, ℕ, List, [], true, false};
 ghost use Rattle.std.specs.Io.KnownBytes.{Appends};
 ghost use Rattle.io_edge.specs.Outside.{Rises};
 ghost use Rattle.script_text.specs.Outcome.{status_of};
-ghost use Rattle.script_text.specs.Grammar.{grammar};
 ghost use Rattle.script_text.specs.declared.error.ScriptError.{ScriptError};
-ghost use Rattle.snap_run.specs.Run.{texts, is_form, error_text, line_text, reading_of, writing_of, Written, Broken, Runs, Refuses, Faults, IsOutcome, Tells, IsSound, EndsAs};
+ghost use Rattle.script_text.specs.declared.outcome.End.{End as Ending};
+ghost use Rattle.snap_run.specs.Ends.{is_replay, end_of, EndsAs};
+ghost use Rattle.snap_run.specs.Run.{texts, error_text, reading_of, writing_of, Broken, RunsAll, ComesTo, Faults, IsOutcome, Tells, IsSound};
 
 use crate::edge::write_text;
 use crate::verdict::verdict_of;
@@ -34,20 +35,21 @@ fn run<S: Source, W: Sink>(alloc: Global, words: &[String], source: &mut S, sink
         (reading_of S.left S.faults source.old source.new)
         (writing_of W.written W.faults sink.old sink.new)
         result.end result.history }
-    ensures no_memory { result.end ≡ End.NoMemory → sink.new ≡ sink.old }
-    ensures unread { is_form (texts words.now) ≡ false → source.new ≡ source.old }
+    ensures unwritten { result.end ≡ End.NoMemory → sink.new ≡ sink.old }
+    ensures unread { is_replay (texts words.now) ≡ false → source.new ≡ source.old }
 {
     match verdict_of(alloc, words, source) {
         Ok(verdict) => match write_text(sink, &verdict.text) {
             Ok(()) => ended(verdict.end, verdict.history),
             Err(_) => ended(End::WriteFault, verdict.history),
         },
-        Err(NoMemory) => ended(End::NoMemory, History::from_vec(Vec::new(alloc))),
+        Err(NoMemory) => ended(End::NoMemory, History::new(alloc)),
     }
 }
 
 /// Runs the program: `words` are its words, with its own name first, and must be exactly `replay`. It reads a script
-/// from the source to its end, serves it, and writes the replies to the sink, or a line that tells of an error.
+/// from the source to its end, serves it, and writes the replies to the sink, or a line that tells of an error. What
+/// the bytes of a script come to is told by `run_bytes`.
 ///
 /// The outcome says how that ended, with the exit status, and the history of the steps that were made. Want of memory
 /// may end it at any moment before the writing begins; then nothing is written.
@@ -60,18 +62,23 @@ pub fn run_tool<S: Source, W: Sink>(
     ensures status { result.status ≡ status_of result.end }
 
     // The script that the source spells was run, each reply is the plain tree's, and the text of all was written.
-    ensures done { result.end ≡ End.Done → (text : List ℕ)
-        × Runs (texts words.now) (reading_of S.left S.faults source.old source.new) result.history text
-        × Appends (W.written sink.old) (W.written sink.new) text }
+    ensures done { result.end ≡ End.Done → (printed : List ℕ)
+        × RunsAll (texts words.now) (reading_of S.left S.faults source.old source.new) result.history printed
+        × Appends (W.written sink.old) (W.written sink.new) printed
+        × (W.faults sink.new ≡ W.faults sink.old) }
 
     // No step was made, and the line that tells of the error was written.
-    ensures usage { result.end ≡ End.Usage → (is_form (texts words.now) ≡ false)
+    ensures usage { result.end ≡ End.Usage → (is_replay (texts words.now) ≡ false)
         × (result.history ≡ [])
         × Appends (W.written sink.old) (W.written sink.new) (error_text End.Usage) }
     ensures refused { (error : ScriptError) → result.end ≡ End.ScriptRefused error
-        → Refuses (texts words.now) (reading_of S.left S.faults source.old source.new) error
+        → ComesTo (texts words.now) (reading_of S.left S.faults source.old source.new) (End.ScriptRefused error)
         × (result.history ≡ [])
-        × Appends (W.written sink.old) (W.written sink.new) (line_text error) }
+        × Appends (W.written sink.old) (W.written sink.new) (error_text (End.ScriptRefused error)) }
+    ensures unfinished { (lines : ℕ) → result.end ≡ End.Unfinished lines
+        → ComesTo (texts words.now) (reading_of S.left S.faults source.old source.new) (End.Unfinished lines)
+        × (result.history ≡ [])
+        × Appends (W.written sink.old) (W.written sink.new) (error_text (End.Unfinished lines)) }
     ensures read_fault { result.end ≡ End.ReadFault
         → Faults (texts words.now) (reading_of S.left S.faults source.old source.new)
         × (result.history ≡ [])
@@ -81,23 +88,23 @@ pub fn run_tool<S: Source, W: Sink>(
     ensures write_fault { result.end ≡ End.WriteFault
         → Broken (texts words.now) (reading_of S.left S.faults source.old source.new)
         (writing_of W.written W.faults sink.old sink.new) result.history }
-    ensures no_memory { result.end ≡ End.NoMemory → sink.new ≡ sink.old }
+
+    // Nothing is told and nothing is written.
+    ensures no_memory { result.end ≡ End.NoMemory → (result.history ≡ []) × (sink.new ≡ sink.old) }
+
+    // No schedule is followed step by step yet, and no disk is there to fail.
+    ensures never { ((line : ℕ) → result.end ≢ End.ScheduleRefused line) × (result.end ≢ End.DiskFault) }
 
     // Nothing is read for words that are no form.
-    ensures unread { is_form (texts words.now) ≡ false → source.new ≡ source.old }
+    ensures unread { is_replay (texts words.now) ≡ false → source.new ≡ source.old }
 
-    // Where no count rises, each input comes to its one end, or to want of memory.
-    ensures complete { is_form (texts words.now) ≡ true
-        → Tells (reading_of S.left S.faults source.old source.new) (λ input. IsOk (grammar input))
+    // Where no count rises, words and input come to their one end, or to want of memory.
+    ensures complete { (end : Ending)
+        → Tells (reading_of S.left S.faults source.old source.new) (λ input. end_of (texts words.now) input ≡ end)
         → IsSound (reading_of S.left S.faults source.old source.new)
         (writing_of W.written W.faults sink.old sink.new)
-        → EndsAs End.Done result.end }
-    ensures complete_refusal { (error : ScriptError) → is_form (texts words.now) ≡ true
-        → Tells (reading_of S.left S.faults source.old source.new) (λ input. grammar input ≡ Err error)
-        → IsSound (reading_of S.left S.faults source.old source.new)
-        (writing_of W.written W.faults sink.old sink.new)
-        → EndsAs (End.ScriptRefused error) result.end }
-    ensures complete_usage { is_form (texts words.now) ≡ false
+        → EndsAs end result.end }
+    ensures complete_usage { is_replay (texts words.now) ≡ false
         → (Rises (W.faults sink.old) (W.faults sink.new) → ⊥)
         → EndsAs End.Usage result.end }
 {

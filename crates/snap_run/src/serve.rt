@@ -1,11 +1,14 @@
 // How the server answers a line, and the event that this is.
-ghost use Rattle.std.specs.Prelude.{◌≡◌, ◌<◌, ◌^◌, ℕ, ◌+◌, ◌-◌, [], length, slice_get, IsTrue, OnOk, IfOk};
+ghost use Rattle.std.specs.Prelude.{◌≡◌, ◌≤◌, ◌<◌, ◌^◌, ℕ, ◌+◌, ◌-◌, true, [], length, slice_get, IsTrue, OnOk, IfOk};
+ghost use Rattle.std.specs.List.{AllByRecursion};
 ghost use Rattle.snap_ids.specs.declared.id.TheConstants.{ROOT};
 ghost use Rattle.snap_ids.specs.Path.{place_of};
 ghost use Rattle.plain_tree.specs.Line as plain;
+ghost use Rattle.plain_tree.specs.Line.{is_served};
+ghost use Rattle.snap_run.specs.Ends.{IsTaken};
 ghost use Rattle.plain_tree.specs.State as state;
 ghost use Rattle.plain_tree.specs.Direct.{ServesAfter};
-ghost use Rattle.plain_tree.specs.Legal.{snap_answer, list_answer, answer_to, change_by, IsServed};
+ghost use Rattle.plain_tree.specs.Legal.{snap_answer, list_answer, line_answer, change_by, numbered, IsServed};
 ghost use Rattle.snap_run.specs.Server.{live_of, tree_of, count_of, has_room, Makes};
 ghost use Rattle.snap_run.specs.Event.{event_of, event_with};
 
@@ -108,7 +111,7 @@ impl Direct {
         ensures change { IfOk result (λ decision.
             plain.change_of decision ≡ change_by (live_of self.old) line.now) }
         ensures answer { IfOk result (λ decision. (client : ℕ) →
-            plain.answer_of decision ≡ answer_to (live_of self.old) (tree_of self.old) client line.now) }
+            plain.answer_of decision ≡ line_answer (live_of self.old) (tree_of self.old) client line.now) }
         ensures made { IfOk result (λ decision. Makes self.old self.new (plain.change_of decision)) }
     {
         match line {
@@ -117,10 +120,11 @@ impl Direct {
                 Ok(answer) => Ok(Decision::Say(answer)),
                 Err(error) => Err(error),
             },
+            _ => Ok(refused(Refusal::ReadOnly)),
         }
     }
 
-    /// Answers a line of a client, its number-th, and makes its change.
+    /// Answers a line of a client, its number-th, and makes its change. The line is one that a server takes.
     pub fn serve(
         &mut self,
         alloc: Global,
@@ -128,14 +132,13 @@ impl Direct {
         number: u32,
         line: &Line,
     ) -> Result<Event, NoMemory>
+        requires room { IsTrue (has_room self.old) }
+        requires taken { is_served line.now ≡ true }
         ensures served { IfOk result (λ event.
-            IsServed (live_of self.old) (tree_of self.old) (count_of self.old) number client line.now event) }
+            IsServed (live_of self.old) (tree_of self.old) (count_of self.old)
+            (record { client = client; number = number; line = line.now }) event) }
         ensures made { OnOk result (Makes self.old self.new (change_by (live_of self.old) line.now)) }
-        ensures room { OnOk result (IsTrue (has_room self.old)) }
     {
-        if !self.has_room() {
-            return Err(NoMemory);
-        }
         let entries = self.count();
         match self.decide(line) {
             Ok(decision) => event_of(alloc, client, number, entries, decision),
@@ -146,11 +149,11 @@ impl Direct {
 
 // The answer to a change.
 fn answer_to(change: &Change) -> Answer
-    ensures { result ≡ plain.answer_to change.now }
+    ensures { result ≡ plain.answer_of_change change.now }
 {
     match change {
-        Change::Mkdir { .. } => Answer::Done,
         Change::Mksnap { id, .. } => Answer::Snap(*id),
+        _ => Answer::Done,
     }
 }
 
@@ -184,7 +187,7 @@ fn event_of(
             one_reply(alloc, Effects::from_vec(effects), reply)
         }
         Decision::Say(answer) => {
-            let effects = Effects::from_vec(Vec::new(alloc));
+            let effects = Effects::new(alloc);
             let reply = Replied {
                 client,
                 line: number,
@@ -208,30 +211,23 @@ fn one_reply(alloc: Global, effects: Effects, reply: Replied) -> Result<Event, N
         node: client,
         step: Step::Op(client),
         taken: None,
-        sent: Sending::from_vec(Vec::new(alloc)),
+        sent: Sending::new(alloc),
         effects,
         replies: Replies::from_vec(replies),
     })
 }
 
-// The number of the line that stands behind so many others.
-fn line_number(before: usize) -> Result<u32, NoMemory>
-    ensures { IfOk result (λ number. number ≡ before + 1) }
-{
-    if before >= 4_000_000_000 {
-        return Err(NoMemory);
-    }
-    Ok(before as u32 + 1)
-}
-
-/// The history of a script's lines, each answered after the ones before it.
+/// The history of a script's lines, each answered after the ones before it. They are lines of client 1 that a server
+/// takes.
 pub fn history_of(alloc: Global, lines: &[(u8, Line)]) -> Result<History, NoMemory>
-    ensures { IfOk result (λ history. ServesAfter [] 1 lines.now history) }
+    requires few { length lines.now ≤ 512 }
+    requires taken { AllByRecursion IsTaken lines.now }
+    ensures { IfOk result (λ history. ServesAfter [] (numbered lines.now) history) }
 {
     let mut server = Direct::new(alloc)?;
     let mut events = Vec::with_capacity(alloc, lines.len())?;
     for (i, (client, line)) in lines.iter().enumerate() {
-        let number = line_number(i)?;
+        let number = i as u32 + 1;
         events.push(server.serve(alloc, *client, number, line)?)?;
     }
     Ok(History::from_vec(events))

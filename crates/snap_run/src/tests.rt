@@ -1,6 +1,9 @@
 // Scripts over sources and sinks in memory.
-use crate::run_tool;
+use crate::{run_bytes, run_tool};
 use io_edge::{MemSink, MemSource};
+use script_text::{End, ScriptError};
+use std::alloc::{AllocError, Global};
+use std::fmt::Write;
 use std::process::Abort;
 use std::test::Fail;
 
@@ -50,7 +53,9 @@ fn replayed<R: Abort + AllocGlobal>(
     compare(rt, &row, status, text)
 }
 
-const STORY: &str = "clients 1
+// The scripts of the examples, with what they answer.
+const STORY: &str = "# A snapshot of one directory, and an entry that is made later.
+clients 1
 1 mkdir /a
 1 mkdir /a/.snap/s
 1 mkdir /a/b
@@ -68,12 +73,90 @@ const STORY_TEXT: &str = "1.1 ok
 done
 ";
 
+const BACKUP: &str = "# Two snapshots of a tree that goes on changing.
+clients 1
+1 mkdir /home
+1 mkdir /home/ann
+1 mkdir /home/ann/photos
+1 mkdir /home/.snap/monday
+
+1 mkdir /home/ann/letters
+1 mkdir /home/bob
+1 mkdir /home/.snap/tuesday
+
+1 mkdir /home/bob/drafts
+
+# Each lists what was there when it was made, also below.
+1 ls /home/.snap/monday
+1 ls /home/.snap/monday/ann
+1 ls /home/.snap/tuesday
+1 ls /home/.snap/tuesday/ann
+1 ls /home/.snap/tuesday/bob
+1 ls /home/bob
+schedule
+all
+";
+
+const BACKUP_TEXT: &str = "1.1 ok
+1.2 ok
+1.3 ok
+1.4 ok snap 2
+1.5 ok
+1.6 ok
+1.7 ok snap 3
+1.8 ok
+1.9 list ann/
+1.10 list photos/
+1.11 list ann/ bob/
+1.12 list letters/ photos/
+1.13 list
+1.14 list drafts/
+done
+";
+
+const UNDER_SNAP: &str = "# What a snapshot refuses.
+clients 1
+1 mkdir /project
+1 mkdir /project/src
+1 mkdir /project/.snap/before
+1 mkdir /project/src/experiment
+
+# Its name a second time, a change under it, a name that begins with an underscore.
+1 mkdir /project/.snap/before
+1 mkdir /project/.snap/before/src/fix
+1 mkdir /project/.snap/_mine
+
+# What came later isn't in it, and no other name leads into one.
+1 ls /project/src
+1 ls /project/.snap/before/src
+1 ls /project/.snap/before/src/experiment
+1 ls /project/.snap/after
+schedule
+all
+";
+
+const UNDER_SNAP_TEXT: &str = "1.1 ok
+1.2 ok
+1.3 ok snap 2
+1.4 ok
+1.5 exists
+1.6 read-only
+1.7 bad-name
+1.8 list experiment/
+1.9 list
+1.10 no-entry
+1.11 no-snap
+done
+";
+
 #[test]
 fn scripts_are_answered(rt: HostRuntime) -> Result<(), Fail> {
     replayed(&rt, "clients 1", 0, "done\n")?;
     replayed(&rt, "clients 1\n", 0, "done\n")?;
     replayed(&rt, "clients 1\nschedule\nall\n", 0, "done\n")?;
-    replayed(&rt, STORY, 0, STORY_TEXT)
+    replayed(&rt, STORY, 0, STORY_TEXT)?;
+    replayed(&rt, BACKUP, 0, BACKUP_TEXT)?;
+    replayed(&rt, UNDER_SNAP, 0, UNDER_SNAP_TEXT)
 }
 
 // Each refusal of a line comes once, and where several apply the first in their order.
@@ -178,25 +261,187 @@ fn replies_are_the_plain_trees(rt: HostRuntime) -> Result<(), Fail> {
 fn wrong_lines_are_named(rt: HostRuntime) -> Result<(), Fail> {
     let table = [
         ("", "error line 1 bad\n"),
-        ("\nclients 1\n", "error line 1 bad\n"),
         ("# none\n", "error line 1 bad\n"),
-        ("clients 2\n", "error line 1 bad\n"),
+        ("clients 0\n", "error line 1 bad\n"),
+        ("clients 9\n", "error line 1 limit\n"),
+        ("\n# two\nclients 9\n", "error line 3 limit\n"),
+        ("1 frob\n", "error line 1 bad\n"),
         ("clients 1\n1 frob\n", "error line 2 bad\n"),
         ("clients 1\n2 mkdir /a\n", "error line 2 bad\n"),
         ("clients 1\n1 mkdir a\n", "error line 2 bad\n"),
         ("clients 1\n1  mkdir /a\n", "error line 2 bad\n"),
-        ("clients 1\n1 ls /a/.snap\n", "error line 2 bad\n"),
-        ("clients 1\n1 ls /a/.snap/_s_1\n", "error line 2 bad\n"),
-        ("clients 1\n1 mkdir /a\r\n", "error line 2 bad\n"),
-        ("clients 1\n\n", "error line 2 bad\n"),
-        ("clients 1\n1 mkdir /a\n", "error line 3 bad\n"),
-        ("clients 1\nschedule\n", "error line 3 bad\n"),
-        ("clients 1\nschedule\ncommit\n", "error line 3 bad\n"),
-        ("clients 1\nschedule\nall\nall\n", "error line 4 bad\n"),
+        ("clients 1\n1 mkdir /a\r", "error line 2 bad\n"),
+        ("clients 1\nschedule\nfrob\n", "error line 3 bad\n"),
+        ("clients 1\nobjsize 8\n", "error line 2 limit\n"),
+        (
+            "clients 2\n1 barrier\nschedule\nall\n",
+            "error barriers 1 2\n",
+        ),
     ];
     for (input, text) in table {
         replayed(&rt, input, 3, text)?;
     }
+    Ok(())
+}
+
+// An input whose second line is a comment of so many bytes.
+fn commented(alloc: Global, count: usize) -> Result<String, AllocError> {
+    let mut input = String::from_str(alloc, "clients 1\n#")?;
+    for _ in 1..count {
+        input.push_str("-")?;
+    }
+    input.push_str("\n")?;
+    Ok(input)
+}
+
+#[test]
+fn long_lines_are_refused(rt: HostRuntime) -> Result<(), Fail> {
+    replayed(&rt, &commented(rt.alloc(), 1_024)?, 0, "done\n")?;
+    replayed(
+        &rt,
+        &commented(rt.alloc(), 1_025)?,
+        3,
+        "error line 2 long\n",
+    )
+}
+
+#[test]
+fn lines_that_no_server_takes_are_named(rt: HostRuntime) -> Result<(), Fail> {
+    let table = [
+        ("clients 2\n", "error line 1 bad\n"),
+        (
+            "# of two\n\nclients 2\n2 mkdir /a\n1 mkdir /b\n",
+            "error line 3 bad\n",
+        ),
+        (
+            "clients 1\n1 rmdir /a\nschedule\nall\n",
+            "error line 2 bad\n",
+        ),
+        (
+            "clients 1\n1 mkdir /a\n\n1 stat /a\nschedule\nall\n",
+            "error line 4 bad\n",
+        ),
+        (
+            "clients 1\nobjsize 4096\nrestart 3 0\n1 create /a 0644\n",
+            "error line 4 bad\n",
+        ),
+        (
+            "clients 1\n1 ls /a/.snap\nschedule\nall\n",
+            "error line 2 bad\n",
+        ),
+        (
+            "clients 1\n1 ls /a/.snap/_s_1\nschedule\nall\n",
+            "error line 2 bad\n",
+        ),
+        (
+            "clients 1\n1 mkdir /a\nschedule\ncommit\n",
+            "error line 4 bad\n",
+        ),
+        (
+            "clients 1\nschedule\nall\n# again\nall\n",
+            "error line 5 bad\n",
+        ),
+    ];
+    for (input, text) in table {
+        replayed(&rt, input, 3, text)?;
+    }
+    Ok(())
+}
+
+#[test]
+fn lines_without_a_schedule_are_unfinished(rt: HostRuntime) -> Result<(), Fail> {
+    replayed(&rt, "clients 1\n1 mkdir /a\n", 8, "error unfinished 2\n")?;
+    replayed(
+        &rt,
+        "clients 1\n1 mkdir /a\nschedule\n",
+        8,
+        "error unfinished 3\n",
+    )?;
+    replayed(
+        &rt,
+        "clients 1\n\n1 mkdir /a\n# end\n",
+        8,
+        "error unfinished 4\n",
+    )?;
+    replayed(&rt, "clients 1\n", 0, "done\n")?;
+    replayed(&rt, "clients 1\nschedule\n", 0, "done\n")
+}
+
+#[test]
+fn comments_and_carriage_returns_are_skipped(rt: HostRuntime) -> Result<(), Fail> {
+    let input =
+        "# A tree\r\n\r\nclients 1\r\n1 mkdir /a\r\n\n# and its list\n1 ls /\r\nschedule\r\nall\r\n";
+    replayed(&rt, input, 0, "1.1 ok\n1.2 list a/\ndone\n")
+}
+
+// A name of 64 bytes that ends in a number.
+fn long_name(alloc: Global, number: usize) -> Result<String, AllocError> {
+    let mut digits = String::new(alloc);
+    write!(digits, "{number}")?;
+    let mut name = String::new(alloc);
+    for _ in digits.len()..64 {
+        name.push_str("n")?;
+    }
+    name.push_str(&digits)?;
+    Ok(name)
+}
+
+// 500 directories with long names in one, a snapshot of it, and lists of both: the largest number of lines.
+fn largest(alloc: Global) -> Result<String, AllocError> {
+    let mut input = String::from_str(alloc, "clients 1\n1 mkdir /d\n")?;
+    for number in 0..500 {
+        let name = long_name(alloc, number)?;
+        input.push_str("1 mkdir /d/")?;
+        input.push_str(&name)?;
+        input.push_str("\n")?;
+    }
+    input.push_str("1 mkdir /d/.snap/s\n")?;
+    for _ in 0..5 {
+        input.push_str("1 ls /d\n1 ls /d/.snap/s\n")?;
+    }
+    input.push_str("schedule\nall\n")?;
+    Ok(input)
+}
+
+#[test]
+fn the_largest_script_is_run(rt: HostRuntime) -> Result<(), Fail> {
+    let alloc = rt.alloc();
+    let words = vec![in alloc;
+        String::from_str(alloc, "snapctl")?,
+        String::from_str(alloc, "replay")?,
+    ]?;
+    let report = run_bytes(alloc, &words, largest(alloc)?.as_bytes());
+    assert_eq!(rt; report.status, 0);
+    assert_eq!(rt; report.history.as_slice().len(), 512);
+    // 502 short lines with their numbers, ten lists of 500 names, and the last line.
+    let lists = 10 * (500 * 66);
+    assert!(rt; lists < report.text.len() && report.text.len() < lists + 8_000);
+    assert!(rt; report.text.as_slice().ends_with(b"done\n"));
+    Ok(())
+}
+
+#[test]
+fn bytes_are_run_without_a_source(rt: HostRuntime) -> Result<(), Fail> {
+    let alloc = rt.alloc();
+    let name = vec![in alloc; String::from_str(alloc, "snapctl")?]?;
+    let report = run_bytes(alloc, &name, STORY.as_bytes());
+    assert_eq!(rt; (report.status, report.end), (2, End::Usage));
+    assert_eq!(rt; report.text.as_slice(), b"error usage\n".as_slice());
+    assert!(rt; report.history.as_slice().is_empty());
+    let words = vec![in alloc;
+        String::from_str(alloc, "snapctl")?,
+        String::from_str(alloc, "replay")?,
+    ]?;
+    let report = run_bytes(alloc, &words, STORY.as_bytes());
+    assert_eq!(rt; (report.status, report.end), (0, End::Done));
+    assert_eq!(rt; report.text.as_slice(), STORY_TEXT.as_bytes());
+    assert_eq!(rt; report.history.as_slice().len(), 5);
+    let report = run_bytes(alloc, &words, b"clients 9".as_slice());
+    assert_eq!(rt;
+        (report.status, report.end),
+        (3, End::ScriptRefused(ScriptError::Limit(1)))
+    );
+    assert_eq!(rt; report.text.as_slice(), b"error line 1 limit\n".as_slice());
     Ok(())
 }
 

@@ -1,7 +1,7 @@
 use Rattle.std.proofs.Common.{◌≡◌, true, false, sym, ap, ◌∙◌, arith}
 use Rattle.std.specs.Prelude.{option_map}
-use Rattle.plain_tree.specs.State.{Snapshot}
-use Rattle.snap_run.specs.Server.{seen, is_named}
+use Rattle.plain_tree.specs.State.{Snapshot, is_named}
+use Rattle.snap_run.specs.Server.{seen}
 use Rattle.snap_run.proofs.Finds.{find_here, find_past, find_none}
 use Rattle.snap_run.proofs.direct.find_snap.Goals as goal
 

@@ -1,4 +1,4 @@
-use Rattle.std.proofs.Common.{ℕ, List, take, drop, subst, arith}
+use Rattle.std.proofs.Common.{ℕ, List, take, drop, ◌∙◌, subst, arith}
 use Rattle.std.specs.Io.KnownBytes.{Appends}
 use Rattle.std.proofs.Math.Seq.{take-add}
 use Rattle.std.proofs.lemmas.List.{length-drop}
@@ -16,7 +16,7 @@ loop-done-preserved g c =
     record {
       bounded = omega (arith, c.in-Ok.ensures.bound, length-drop done text, c.loop-done.invariant.bounded);
       written = rw (take-add done n text) (appends_more _ _ _ (take done text) (take n (drop done text)) c.loop-done.invariant.written put);
-      steady = omega (arith, c.loop-done.invariant.steady, c.in-Ok.ensures.steady);
+      sound = c.in-Ok.ensures.sound (λ none. absurd (c.if-n-eq0.false none)) ∙ c.loop-done.invariant.sound;
     }
 
 -- what a failed write leaves

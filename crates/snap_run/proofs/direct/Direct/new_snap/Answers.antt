@@ -7,7 +7,7 @@ use Rattle.plain_types.specs.declared.decision.Decision.TheVariants.{Put}
 use Rattle.plain_tree.specs.State.{next_snap}
 use Rattle.plain_tree.specs.Change.{has_snap}
 use Rattle.snap_run.specs.Server.{seen, live_of, snaps_of}
-use Rattle.snap_run.proofs.Decisions.{is_some-snap_named, new_snap_taken, new_snap_made}
+use Rattle.snap_run.proofs.Decisions.{on_err, is_some-snap_named, new_snap_taken, new_snap_made, new_snap_changes}
 use Rattle.snap_run.proofs.direct.Direct.new_snap.Goals as goal
 
 -- a snapshot has the name
@@ -39,3 +39,25 @@ returns-clause-made c =
           ∙ (λ i. map seen old ++ record { id = c.next_snap-id.result; root = c.args.dir; name = same i; live = true } ∷ []);
       made = refl;
     }
+
+-- only a change takes memory
+pub returns-in_err-kept-clause-no_memory : goal.returns-in_err-kept-clause-no_memory
+returns-in_err-kept-clause-no_memory c =
+    let live = live_of c.args.self.now in
+    let new : is_new_snap c.args.name.now ≡ true = cc in
+    let free : has_snap (snaps_of c.args.self.now) c.args.dir c.args.name.now ≡ false = sym (is_some-snap_named (snaps_of c.args.self.now) c.args.dir c.args.name.now) ∙ ap is_some (sym c.snap_named.ensures) ∙ sym c.is_some.ensures ∙ c.if-is_some.false in
+    on_err c.from_residual.result _ (new_snap_changes live (next_snap live) c.args.name.now c.args.dir new free)
+
+pub returns-in_err-name-clause-no_memory : goal.returns-in_err-name-clause-no_memory
+returns-in_err-name-clause-no_memory c =
+    let live = live_of c.args.self.now in
+    let new : is_new_snap c.args.name.now ≡ true = cc in
+    let free : has_snap (snaps_of c.args.self.now) c.args.dir c.args.name.now ≡ false = sym (is_some-snap_named (snaps_of c.args.self.now) c.args.dir c.args.name.now) ∙ ap is_some (sym c.snap_named.ensures) ∙ sym c.is_some.ensures ∙ c.if-is_some.false in
+    on_err c.from_residual-in_err-name.result _ (new_snap_changes live (next_snap live) c.args.name.now c.args.dir new free)
+
+pub returns-in_err-push-clause-no_memory : goal.returns-in_err-push-clause-no_memory
+returns-in_err-push-clause-no_memory c =
+    let live = live_of c.args.self.now in
+    let new : is_new_snap c.args.name.now ≡ true = cc in
+    let free : has_snap (snaps_of c.args.self.now) c.args.dir c.args.name.now ≡ false = sym (is_some-snap_named (snaps_of c.args.self.now) c.args.dir c.args.name.now) ∙ ap is_some (sym c.snap_named.ensures) ∙ sym c.is_some.ensures ∙ c.if-is_some.false in
+    on_err c.from_residual-in_err-push.result _ (new_snap_changes live (next_snap live) c.args.name.now c.args.dir new free)
