@@ -85,6 +85,15 @@ told : (left : Option (List ℕ)) (P : List ℕ → Type 0) → IsSomeAnd left P
 told None P tells = absurd (elim tells [ ])
 told (Some bytes) P tells = (bytes, refl, tells)
 
+-- what a source has left is as Q says where it is as P says, and that implies Q
+told_weaker : (left : Option (List ℕ)) (P Q : List ℕ → Type 0) → ((bytes : List ℕ) → P bytes → Q bytes) → IsSomeAnd left P → IsSomeAnd left Q
+told_weaker (Some bytes) P Q step tells = step bytes tells
+told_weaker None P Q step tells = absurd (elim tells [ ])
+
+-- what an input comes to that the grammar refuses
+refusal_end : (words : List (List ℕ)) (input : List ℕ) (error : ScriptError) → is_replay words ≡ true → grammar input true ≡ Err error → end_of words input ≡ ending.ScriptRefused error
+refusal_end words input error is refused = rw (is, refused) refl
+
 not_both : (b : Bool) → b ≡ true → b ≡ false → ⊥
 not_both b holds fails = cc
 
@@ -113,6 +122,13 @@ module _ (decides : (bytes : List ℕ) → grammar (take 16777217 bytes) true �
   completes ending.DiskFault history outcome wanted tells sound = absurd outcome.verdict
   completes ending.NoMemory history outcome wanted tells sound = inr refl
   completes (ending.ScheduleRefused line) history outcome wanted tells sound = absurd outcome.verdict
+
+  pub completes_refusal : (end : End) (history : List Event) → IsOutcome words reading writing end history → (error : ScriptError) → is_replay words ≡ true → Tells reading (λ input. grammar input true ≡ Err error) → IsSound reading writing → EndsAs (ending.ScriptRefused error) end
+  completes_refusal end history outcome error is tells sound =
+      completes end history outcome (ending.ScriptRefused error)
+      (told_weaker reading.left (λ input. grammar input true ≡ Err error) (λ input. end_of words input ≡ ending.ScriptRefused error)
+      (λ input refused. refusal_end words input error is refused) tells)
+      sound
 
 -- words that are no form are told so, where the sink doesn't fail
 pub completes_usage : (words : List (List ℕ)) (reading : Reading) (writing : Writing) (end : End) (history : List Event) → IsOutcome words reading writing end history → is_replay words ≡ false → (Rises writing.before writing.now → ⊥) → EndsAs ending.Usage end

@@ -1,7 +1,8 @@
 // The program's one call.
-ghost use Rattle.std.specs.Prelude.{◌≡◌, ◌≢◌, ℕ, List, [], true, false};
+ghost use Rattle.std.specs.Prelude.{◌≡◌, ◌≢◌, ℕ, List, [], true, false, Err};
 ghost use Rattle.std.specs.Io.KnownBytes.{Appends};
 ghost use Rattle.io_edge.specs.Outside.{Rises};
+ghost use Rattle.script_text.specs.Grammar.{grammar};
 ghost use Rattle.script_text.specs.Outcome.{status_of};
 ghost use Rattle.script_text.specs.declared.error.ScriptError.{ScriptError};
 ghost use Rattle.script_text.specs.declared.outcome.End.{End as Ending};
@@ -104,6 +105,11 @@ pub fn run_tool<S: Source, W: Sink>(
         → IsSound (reading_of S.left S.faults source.old source.new)
         (writing_of W.written W.faults sink.old sink.new)
         → EndsAs end result.end }
+    ensures complete_refusal { (error : ScriptError) → is_replay (texts words.now) ≡ true
+        → Tells (reading_of S.left S.faults source.old source.new) (λ input. grammar input true ≡ Err error)
+        → IsSound (reading_of S.left S.faults source.old source.new)
+        (writing_of W.written W.faults sink.old sink.new)
+        → EndsAs (End.ScriptRefused error) result.end }
     ensures complete_usage { is_replay (texts words.now) ≡ false
         → (Rises (W.faults sink.old) (W.faults sink.new) → ⊥)
         → EndsAs End.Usage result.end }

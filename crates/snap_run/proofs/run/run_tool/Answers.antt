@@ -1,6 +1,6 @@
 use Rattle.std.proofs.Common.{true}
 use Rattle.script_text.proofs.Fronts.{accepted_short, first_bytes_decide}
-use Rattle.snap_run.proofs.Outcomes.{at_done, at_usage, at_refused, at_unfinished, at_read_fault, at_write_fault, at_no_memory, never, completes, completes_usage}
+use Rattle.snap_run.proofs.Outcomes.{at_done, at_usage, at_refused, at_unfinished, at_read_fault, at_write_fault, at_no_memory, never, completes, completes_refusal, completes_usage}
 use Rattle.snap_run.proofs.run.run_tool.Goals as goal
 
 pub returns-clause-done : goal.returns-clause-done
@@ -29,6 +29,9 @@ returns-clause-never g c = never _ _ _ c.run.result.end c.run.result.history c.r
 
 pub returns-clause-complete : goal.returns-clause-complete
 returns-clause-complete g c = completes (λ bytes. first_bytes_decide bytes true) (λ bytes script. accepted_short bytes true script) _ _ _ c.run.result.end c.run.result.history c.run.ensures.outcome
+
+pub returns-clause-complete_refusal : goal.returns-clause-complete_refusal
+returns-clause-complete_refusal g c = completes_refusal (λ bytes. first_bytes_decide bytes true) (λ bytes script. accepted_short bytes true script) _ _ _ c.run.result.end c.run.result.history c.run.ensures.outcome
 
 pub returns-clause-complete_usage : goal.returns-clause-complete_usage
 returns-clause-complete_usage g c = completes_usage _ _ _ c.run.result.end c.run.result.history c.run.ensures.outcome
