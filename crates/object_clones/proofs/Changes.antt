@@ -1,5 +1,5 @@
 -- What is to be done to the objects from an index on.
-use Rattle.std.proofs.Common.{◌≡◌, ℕ, ◌+◌, ◌-◌, ◌<◌, ◌≤◌, nat_lt, true, false, Bool, List, [], ◌∷◌, ◌++◌, length, get_or, Option, None, Some, if◌then◌else◌, sym, ◌∙◌, refl, ap, subst, arith, cond, length-append}
+use Rattle.std.proofs.Common.{◌≡◌, ℕ, ◌+◌, ◌-◌, ◌<◌, ◌≤◌, nat_lt, true, false, Bool, List, [], ◌∷◌, ◌++◌, length, get_or, Option, None, Some, if◌then◌else◌, sym, ◌∙◌, refl, ap, subst, arith, cond}
 use Rattle.std.specs.Option.{option_map, IsSome}
 use Rattle.std.specs.Map.{lookup}
 use Rattle.std.specs.Map.Calls.{RetainsPairs}
@@ -9,7 +9,7 @@ use Rattle.object_clones.specs.declared.object.Change.{Change}
 use Rattle.object_clones.specs.declared.object.Object.{Object}
 use Rattle.object_clones.specs.declared.file.File.{File}
 use Rattle.object_clones.specs.Bytes.{or_empty}
-use Rattle.object_clones.specs.Objects.{Next, next, plain, blank, bytes_shown, purged}
+use Rattle.object_clones.specs.Objects.{next, plain, blank, bytes_shown, purged}
 use Rattle.object_clones.specs.Files.{change_at, plain_or_blank, object_in}
 use Rattle.object_clones.specs.Store.{object_or_blank}
 use Rattle.object_clones.proofs.Clones.{if_true, if_false, not_below}

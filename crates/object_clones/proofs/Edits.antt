@@ -1,17 +1,17 @@
 -- What edits do to an object's bytes, and what the log says of it.
-use Rattle.std.proofs.Common.{◌≡◌, ℕ, ◌+◌, ◌-◌, ◌<◌, ◌≤◌, min, max, Bool, true, false, nat_lt, nat_le, List, [], length, get_or, take, drop, Option, None, Some, if◌then◌else◌, slice_range, sym, ◌∙◌, refl, ap, arith, ⊎_elim, length-take, length-drop}
+use Rattle.std.proofs.Common.{◌≡◌, ℕ, ◌+◌, ◌-◌, ◌<◌, ◌≤◌, min, max, Bool, true, false, nat_lt, nat_le, List, length, get_or, take, drop, Option, None, Some, if◌then◌else◌, slice_range, sym, ◌∙◌, refl, ap, arith, ⊎_elim, length-take, length-drop}
 use Rattle.std.specs.Option.{option_map}
 use Rattle.std.proofs.lemmas.Bool.{cases_lt}
 use Rattle.std.proofs.lemmas.List.{get_or-take, get_or-drop, get_or_past}
 use Rattle.snap_ids.specs.Context.{Context}
-use Rattle.object_log.specs.Bytes.{so_many, laid, cut_off}
+use Rattle.object_log.specs.Bytes.{laid, cut_off}
 use Rattle.object_log.specs.Objects.{Touch, length_of, end_of}
 use Rattle.object_clones.specs.Bytes.{written, or_empty}
 use Rattle.object_clones.specs.Objects.{head_written, head_cut, head_deleted}
 use Rattle.object_clones.proofs.Laid.{laid_before, laid_in, laid_past, cut_in, cut_past}
 use Rattle.object_clones.proofs.Many.{length-so_many, get_or-so_many, get_or-so_many_past}
-use Rattle.object_clones.proofs.Clones.{if_true, if_false}
-use Rattle.object_clones.proofs.Tests.{lt_is, lt_not, le_is, le_not}
+use Rattle.object_clones.proofs.Clones.{if_false}
+use Rattle.object_clones.proofs.Decided.{lt_is, lt_not, le_is, le_not}
 use Rattle.object_clones.proofs.Follows.{head_then, touch_of}
 
 pub get_or-written : (old : List ℕ) (offset : ℕ) (bytes : List ℕ) (j : ℕ) → get_or (written old offset bytes) j 0 ≡ laid j offset bytes (get_or old j 0)

@@ -1,5 +1,5 @@
 -- An object follows the messages: one more of each kind.
-use Rattle.std.proofs.Common.{◌≡◌, ◌≢◌, ℕ, ◌+◌, ◌<◌, ◌≤◌, max, Bool, true, false, cond, not, ◌||◌, ◌&&◌, eqb, nat_lt, nat_le, List, [], ◌∷◌, ◌++◌, length, map, filter, get_or, Option, None, Some, if◌then◌else◌, sym, ◌∙◌, refl, ap, subst, arith, append-nil}
+use Rattle.std.proofs.Common.{◌≡◌, ◌≢◌, ℕ, ◌<◌, ◌≤◌, max, Bool, true, false, not, ◌||◌, ◌&&◌, eqb, nat_lt, nat_le, List, [], ◌∷◌, ◌++◌, length, filter, get_or, Option, None, Some, if◌then◌else◌, sym, ◌∙◌, refl, ap, arith, append-nil}
 use Rattle.std.specs.List.{list_all, filter_map}
 use Rattle.std.specs.Option.{option_map}
 use Rattle.snap_ids.specs.declared.id.SnapId.{SnapId}
@@ -10,10 +10,10 @@ use Rattle.object_log.specs.Objects as log
 use Rattle.object_log.specs.Reads.{later_ones_list, earlier_ones_first}
 use Rattle.object_clones.specs.Bytes.{or_empty}
 use Rattle.object_clones.specs.Objects.{Kept, Plain, Next, news, changed, with_kept, clone_at, bytes_at_snap, purged}
-use Rattle.object_clones.specs.Stands.{IsObject, Rising, Between, pair}
+use Rattle.object_clones.specs.Stands.{IsObject, Rising}
 use Rattle.object_clones.proofs.Clones.{if_true, if_false, not_below}
 use Rattle.object_clones.proofs.Changes.{below}
-use Rattle.object_clones.proofs.Tests.{and_front, and_back, or_front, or_back, lt_is, lt_not, is_le}
+use Rattle.object_clones.proofs.Decided.{and_front, and_back, or_front, or_back, lt_is, lt_not, is_le}
 use Rattle.object_clones.proofs.Found.{rising_upto, rising_push, clone_past, clone_same, not_listed, purge_reads, purge_rising}
 use Rattle.object_clones.proofs.Lists.{more_pairs, filter_twice, kept_after, purged_pairs}
 use Rattle.object_clones.proofs.News.{Heads, Starts, heads_news, listed_news, listed_bound, first_front, first_back, all_more, all_front, all_last}

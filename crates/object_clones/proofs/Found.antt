@@ -1,11 +1,11 @@
 -- Clones that rise: the one that is found at an id, after one more and after a purge.
-use Rattle.std.proofs.Common.{◌≡◌, ◌≢◌, ℕ, ◌<◌, ◌≤◌, Bool, true, false, cond, not, ◌||◌, eqb, nat_lt, nat_le, List, [], ◌∷◌, ◌++◌, length, map, filter, Option, None, Some, if◌then◌else◌, sym, ◌∙◌, refl, ap, arith}
+use Rattle.std.proofs.Common.{◌≡◌, ◌≢◌, ℕ, ◌<◌, ◌≤◌, Bool, true, false, cond, not, ◌||◌, eqb, nat_lt, nat_le, List, [], ◌∷◌, ◌++◌, length, filter, Option, None, Some, if◌then◌else◌, sym, ◌∙◌, refl, ap, arith}
 use Rattle.snap_ids.specs.declared.id.SnapId.{SnapId}
 use Rattle.snap_ids.specs.Context.{is_listed}
 use Rattle.object_clones.specs.Objects.{Kept, clone_at, without, serves_some, purged_clones}
 use Rattle.object_clones.specs.Stands.{Between, Rising}
 use Rattle.object_clones.proofs.Clones.{if_true, if_false}
-use Rattle.object_clones.proofs.Tests.{not_le, is_le, eqb_apart, eqb_is, or_false, eqb_swap}
+use Rattle.object_clones.proofs.Decided.{not_le, is_le, eqb_apart, eqb_is, or_false}
 
 pub between_from : (ids : List SnapId) (low m high : ℕ) → Between low high ids → m ≤ low → Between m high ids
 between_from [] low m high b h = b

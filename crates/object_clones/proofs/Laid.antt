@@ -1,5 +1,5 @@
 -- Bytes laid over others, place by place.
-use Rattle.std.proofs.Common.{◌≡◌, ℕ, ◌+◌, ◌-◌, ◌<◌, ◌≤◌, min, max, true, false, ltb, cond, List, length, get_or, take, drop, sym, ◌∙◌, refl, ap, arith, length-take, length-drop, ⊎_elim, rules}
+use Rattle.std.proofs.Common.{◌≡◌, ℕ, ◌+◌, ◌-◌, ◌<◌, ◌≤◌, min, max, List, length, get_or, take, drop, sym, ◌∙◌, ap, arith, length-take, length-drop, ⊎_elim}
 use Rattle.std.proofs.lemmas.List.{get_or-take, get_or-drop, get_or_past, get_or_default}
 use Rattle.std.proofs.lemmas.Bool.{cases_lt}
 use Rattle.object_log.specs.Bytes.{laid, cut_off}

@@ -5,7 +5,7 @@ pub mod Steps
 pub mod Clones
 pub mod Changes
 pub mod Places
-pub mod Tests
+pub mod Decided
 pub mod Found
 pub mod Lists
 pub mod News

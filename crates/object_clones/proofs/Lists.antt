@@ -3,14 +3,12 @@ use Rattle.std.proofs.Common.{◌≡◌, ℕ, Bool, true, false, cond, not, ◌|
 use Rattle.std.specs.List.{filter_map, cons_option}
 use Rattle.std.specs.Option.{option_map}
 use Rattle.std.proofs.lemmas.List.Elements.{filter_map-append}
-use Rattle.std.proofs.lemmas.List.{map-append, append-nil}
+use Rattle.std.proofs.lemmas.List.{map-append}
 use Rattle.snap_ids.specs.declared.id.SnapId.{SnapId}
-use Rattle.snap_ids.specs.Context.{Context, is_listed}
+use Rattle.snap_ids.specs.Context.{is_listed}
 use Rattle.object_log.specs.Objects.{kept_clone, with_clone}
-use Rattle.object_log.specs.Objects as log
-use Rattle.object_clones.specs.Objects.{Kept, without, serves_some, purged_clones, with_kept, news}
+use Rattle.object_clones.specs.Objects.{Kept, purged_clones, with_kept}
 use Rattle.object_clones.specs.Stands.{pair}
-use Rattle.object_clones.proofs.Tests.{or_false}
 
 -- a clone with the ids that are left, if there are some
 abbrev pub with_ids : SnapId → List SnapId → Option (SnapId × List SnapId)

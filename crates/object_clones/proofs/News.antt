@@ -1,13 +1,13 @@
 -- The ids that are news to an object.
-use Rattle.std.proofs.Common.{◌≡◌, ◌≢◌, ℕ, ◌<◌, ◌≤◌, Bool, true, false, cond, not, ◌||◌, ◌&&◌, eqb, nat_lt, nat_le, List, [], ◌∷◌, ◌++◌, filter, sym, ◌∙◌, refl, ap, arith, if◌then◌else◌}
+use Rattle.std.proofs.Common.{◌≡◌, ℕ, ◌<◌, ◌≤◌, Bool, true, false, cond, not, ◌||◌, ◌&&◌, eqb, nat_lt, List, [], ◌∷◌, ◌++◌, filter, sym, ◌∙◌, refl, ap, arith, if◌then◌else◌}
 use Rattle.std.specs.List.{list_all}
 use Rattle.std.proofs.lemmas.List.Folds.{list_all-append}
 use Rattle.snap_ids.specs.declared.id.SnapId.{SnapId}
 use Rattle.snap_ids.specs.Context.{Context, is_listed, falls, begins_below}
 use Rattle.object_log.specs.Bytes.{is_before}
-use Rattle.object_log.specs.Reads.{later_ones_list, earlier_ones_first}
+use Rattle.object_log.specs.Reads.{earlier_ones_first}
 use Rattle.object_clones.specs.Stands.{Between}
-use Rattle.object_clones.proofs.Tests.{and_front, and_back, lt_is, eqb_is}
+use Rattle.object_clones.proofs.Decided.{and_front, and_back, lt_is, eqb_is}
 
 -- the first of some ids is at most a number, and the others are between another and the first
 abbrev pub Heads : ℕ → ℕ → List SnapId → Type 0

@@ -1,8 +1,7 @@
 -- Places in a file, and the objects that they fall in.
-use Rattle.std.proofs.Common.{◌≡◌, ℕ, ◌+◌, ◌-◌, ◌*◌, ◌/◌, ◌%◌, ◌<◌, ◌≤◌, min, max, nat_lt, true, false, List, length, Option, None, Some, sym, ◌∙◌, ap, arith, slice_range, inl, inr, ◌⊎◌, ⊎_elim}
+use Rattle.std.proofs.Common.{◌≡◌, ℕ, ◌+◌, ◌-◌, ◌*◌, ◌/◌, ◌%◌, ◌<◌, ◌≤◌, min, max, nat_lt, List, length, Option, None, Some, arith, slice_range, inl, inr, ◌⊎◌, ⊎_elim}
 use Rattle.std.proofs.Math.Nat.{mul-le-mul_right, div-mul-le_self, lt-div-mul-add}
 use Rattle.std.proofs.lemmas.Grind.{div_ceil_times}
-use Rattle.object_log.specs.Objects.{meets}
 use Rattle.object_clones.specs.Bytes.{written, or_empty}
 use Rattle.object_clones.specs.Objects.{head_written}
 use Rattle.object_clones.proofs.Clones.{if_false, not_below}

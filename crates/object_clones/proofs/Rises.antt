@@ -1,7 +1,6 @@
 -- Extents that rise, and the bytes outside them.
-use Rattle.std.proofs.Common.{◌≡◌, ℕ, ◌+◌, ◌-◌, ◌<◌, ◌≤◌, min, max, true, false, ltb, cond, List, [], ◌∷◌, ◌++◌, length, get_or, take, drop, sym, ◌∙◌, refl, ap, subst, arith, rules}
-use Rattle.object_log.specs.Bytes.{laid, cut_off}
-use Rattle.object_clones.specs.Extents.{Rise, byte_over, byte_in}
+use Rattle.std.proofs.Common.{◌≡◌, ℕ, ◌+◌, ◌<◌, ◌≤◌, List, [], ◌∷◌, ◌++◌, length, ◌∙◌, refl, ap, subst, arith}
+use Rattle.object_clones.specs.Extents.{Rise, byte_over}
 use Rattle.object_clones.specs.declared.extents.Extent.{Extent}
 use Rattle.object_clones.proofs.Laid.{laid_past}
 

@@ -1,5 +1,5 @@
 -- One more extent of a loop over extents.
-use Rattle.std.proofs.Common.{◌≡◌, ℕ, ◌+◌, ◌-◌, ◌<◌, ◌≤◌, min, max, true, false, ltb, cond, List, [], ◌∷◌, ◌++◌, length, get_or, take, drop, sym, ◌∙◌, refl, ap, subst, arith, nat_lt, if◌then◌else◌, ⊎_elim, length-take, length-drop}
+use Rattle.std.proofs.Common.{◌≡◌, ℕ, ◌+◌, ◌-◌, ◌<◌, ◌≤◌, max, List, [], ◌∷◌, length, get_or, take, drop, sym, ◌∙◌, ap, subst, arith, nat_lt, if◌then◌else◌, ⊎_elim}
 use Rattle.std.proofs.lemmas.List.{drop_more, drop_all}
 use Rattle.std.proofs.lemmas.List.Sums.{fold_more}
 use Rattle.std.proofs.lemmas.Bool.{cases_lt}

@@ -1,16 +1,16 @@
 -- The store's value, and what its files hold.
-use Rattle.std.proofs.Common.{◌≡◌, ℕ, ◌+◌, ◌*◌, List, [], map, Option, None, Some, sym, ◌∙◌, refl, ap}
+use Rattle.std.proofs.Common.{◌≡◌, ℕ, List, [], Option, None, Some, ◌∙◌, refl, ap}
 use Rattle.std.specs.Map.{lookup}
 use Rattle.std.specs.Ordering.{nat_cmp}
-use Rattle.std.specs.BTreeMap.{is_at, get}
+use Rattle.std.specs.BTreeMap.{is_at}
 use Rattle.std.specs.Option.{option_map, unwrap_or}
 use Rattle.std.proofs.lemmas.Map.Made.{lookup-map_values}
 use Rattle.object_clones.specs.declared.object.Object.{Object}
 use Rattle.object_clones.specs.declared.file.File.{File}
 use Rattle.object_clones.specs.declared.files.Files.{Files}
-use Rattle.object_clones.specs.Objects.{Plain, blank, plain}
-use Rattle.object_clones.specs.Files.{plain_or_blank, object_in}
-use Rattle.object_clones.specs.Store.{Shown, object_at, plain_file, plain_files, object_or_blank, object_among}
+use Rattle.object_clones.specs.Objects.{blank, plain}
+use Rattle.object_clones.specs.Files.{plain_or_blank}
+use Rattle.object_clones.specs.Store.{object_at, plain_file, plain_files, object_or_blank, object_among}
 
 shown_object : (o : Option Object) → unwrap_or (option_map plain o) blank ≡ plain_or_blank o
 shown_object None = refl

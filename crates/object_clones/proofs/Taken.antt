@@ -1,6 +1,6 @@
 -- A store that stands for some messages, after one more.
-use Rattle.std.proofs.Common.{◌≡◌, ℕ, ◌+◌, ◌*◌, ◌<◌, Bool, true, false, not, ◌||◌, ◌&&◌, ◌==◌, ◌≤◌, eqb, nat_lt, List, [], ◌∷◌, ◌++◌, length, get_or, Option, None, Some, if◌then◌else◌, sym, ◌∙◌, refl, ap, subst, arith, append-nil}
-use Rattle.std.specs.List.{list_any, filter_map, cons_option}
+use Rattle.std.proofs.Common.{◌≡◌, ℕ, ◌+◌, ◌*◌, ◌<◌, Bool, true, false, not, ◌||◌, eqb, nat_lt, List, [], ◌∷◌, ◌++◌, length, get_or, Option, None, Some, if◌then◌else◌, sym, ◌∙◌, refl, ap, subst, arith, append-nil}
+use Rattle.std.specs.List.{cons_option}
 use Rattle.std.specs.Option.{option_map}
 use Rattle.std.proofs.lemmas.List.Sums.{fold_push}
 use Rattle.std.proofs.lemmas.List.Folds.{list_any-append}
@@ -11,19 +11,19 @@ use Rattle.snap_ids.specs.declared.id.SnapId.{SnapId}
 use Rattle.snap_ids.specs.Context.{Context, is_context, falls, begins_above}
 use Rattle.plain_types.specs.declared.message.ToStore.{ToStore}
 use Rattle.plain_types.specs.declared.message.ToStore.TheVariants as message
-use Rattle.object_log.specs.Bytes.{byte_after, byte_of, is_before, purges, was_purged, laid, cut_off}
+use Rattle.object_log.specs.Bytes.{byte_after, byte_of, purges, was_purged, laid, cut_off}
 use Rattle.object_log.specs.Objects.{object_after, object_of, touch, touched, purged_after, never}
 use Rattle.object_log.specs.Objects as log
 use Rattle.object_log.specs.Reads.{context_for, contexts_for}
 use Rattle.object_clones.specs.declared.object.Edit.{Edit}
 use Rattle.object_clones.specs.declared.object.Edit.TheVariants as edit
 use Rattle.object_clones.specs.Bytes.{or_empty}
-use Rattle.object_clones.specs.Objects.{Plain, blank, head_after, edited, changed, purged}
+use Rattle.object_clones.specs.Objects.{Plain, head_after, edited, changed, purged}
 use Rattle.object_clones.specs.Purged.{has_id}
 use Rattle.object_clones.specs.Store.{Shown, object_at, SameStore, EditsFile, PurgesSnapshot}
 use Rattle.object_clones.specs.Stands.{IsObject, StandsFor}
 use Rattle.object_clones.proofs.Clones.{if_true, if_false}
-use Rattle.object_clones.proofs.Tests.{eqb_swap, or_false, and_front, and_back, not_true}
+use Rattle.object_clones.proofs.Decided.{eqb_swap, or_false, and_front, and_back, not_true}
 use Rattle.object_clones.proofs.News.{Starts}
 use Rattle.object_clones.proofs.Follows.{head_then, next_of, touch_of, edited_is, purged_is}
 use Rattle.object_clones.proofs.Edits.{bytes_written, touch_written, bytes_cut, touch_cut, bytes_deleted}

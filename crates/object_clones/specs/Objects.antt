@@ -4,7 +4,6 @@ use Rattle.std.specs.Option.{option_map, option_to_list}
 use Rattle.snap_ids.specs.declared.id.SnapId.{SnapId}
 use Rattle.snap_ids.specs.declared.values.CloneList.{CloneList}
 use Rattle.snap_ids.specs.Context.{Context, is_listed}
-use Rattle.object_log.specs.Objects.{meets}
 use Rattle.object_clones.specs.declared.object.Saved.{Saved}
 use Rattle.object_clones.specs.declared.object.Object.{Object}
 use Rattle.object_clones.specs.declared.object.Change.{Change}

@@ -46,6 +46,36 @@ fn printed(alloc: Global, list: &CloneList) -> Result<String, Fail> {
     Ok(out)
 }
 
+// That an object is listed so.
+fn lists(
+    rt: &impl Abort,
+    alloc: Global,
+    store: &ObjectStore,
+    index: u32,
+    expected: &str,
+) -> Result<(), Fail> {
+    let list = store.clones(FILE, index)?;
+    let text = printed(alloc, &list)?;
+    assert_eq!(rt; text.as_str(), expected);
+    Ok(())
+}
+
+// That the head begins so.
+fn reads(rt: &impl Abort, store: &ObjectStore, expected: &[u8]) -> Result<(), Fail> {
+    assert!(rt; expected.len() <= 4096);
+    let bytes = store.read_head(FILE, expected.len() as u32)?;
+    assert_eq!(rt; bytes.as_slice(), expected);
+    Ok(())
+}
+
+// That the file begins so at a snapshot.
+fn reads_at(rt: &impl Abort, store: &ObjectStore, s: u64, expected: &[u8]) -> Result<(), Fail> {
+    assert!(rt; expected.len() <= 4096);
+    let bytes = store.read_at(FILE, expected.len() as u32, SnapId(s))?;
+    assert_eq!(rt; bytes.as_slice(), expected);
+    Ok(())
+}
+
 #[test]
 fn two_objects(rt: HostRuntime) -> Result<(), Fail> {
     let alloc = rt.alloc();
@@ -54,24 +84,14 @@ fn two_objects(rt: HostRuntime) -> Result<(), Fail> {
     let second = context(alloc, 2, &[SnapId(2)])?;
     write(&rt, alloc, &mut store, 0, b"abcdefghijklmnopqr", &first)?;
     write(&rt, alloc, &mut store, 16, b"XY", &second)?;
-    assert_eq!(rt;
-        printed(alloc, &store.clones(FILE, 1)?)?.as_str(),
-        "2:2, head 2"
-    );
-    assert_eq!(rt;
-        printed(alloc, &store.clones(FILE, 0)?)?.as_str(),
-        "head 16"
-    );
-    let old = store.read_at(FILE, 18, SnapId(2))?;
-    assert_eq!(rt; old.as_slice(), b"abcdefghijklmnopqr".as_slice());
-    let new = store.read_head(FILE, 18)?;
-    assert_eq!(rt; new.as_slice(), b"abcdefghijklmnopXY".as_slice());
+    lists(&rt, alloc, &store, 1, "2:2, head 2")?;
+    lists(&rt, alloc, &store, 0, "head 16")?;
+    reads_at(&rt, &store, 2, b"abcdefghijklmnopqr")?;
+    reads(&rt, &store, b"abcdefghijklmnopXY")?;
     store.purge(SnapId(2))?;
-    assert_eq!(rt; printed(alloc, &store.clones(FILE, 1)?)?.as_str(), "head 2");
-    assert_eq!(rt;
-        store.read_at(FILE, 18, SnapId(2)).err(),
-        Some(StoreError::Gone)
-    );
+    lists(&rt, alloc, &store, 1, "head 2")?;
+    let gone = store.read_at(FILE, 18, SnapId(2));
+    assert!(rt; matches!(gone, Err(StoreError::Gone)));
     Ok(())
 }
 
@@ -83,22 +103,12 @@ fn a_clone_for_two_snapshots(rt: HostRuntime) -> Result<(), Fail> {
     let third = context(alloc, 3, &[SnapId(3), SnapId(2)])?;
     write(&rt, alloc, &mut store, 0, b"aa", &first)?;
     write(&rt, alloc, &mut store, 0, b"bb", &third)?;
-    assert_eq!(rt;
-        printed(alloc, &store.clones(FILE, 0)?)?.as_str(),
-        "3:3,2, head 2"
-    );
+    lists(&rt, alloc, &store, 0, "3:3,2, head 2")?;
     store.purge(SnapId(3))?;
-    assert_eq!(rt;
-        printed(alloc, &store.clones(FILE, 0)?)?.as_str(),
-        "3:2, head 2"
-    );
-    assert_eq!(rt;
-        store.read_at(FILE, 3, SnapId(2))?.as_slice(),
-        b"aa\0".as_slice()
-    );
+    lists(&rt, alloc, &store, 0, "3:2, head 2")?;
+    reads_at(&rt, &store, 2, b"aa\0")?;
     store.purge(SnapId(2))?;
-    assert_eq!(rt; printed(alloc, &store.clones(FILE, 0)?)?.as_str(), "head 2");
-    Ok(())
+    lists(&rt, alloc, &store, 0, "head 2")
 }
 
 #[test]
@@ -110,49 +120,49 @@ fn cut_written_past_and_deleted(rt: HostRuntime) -> Result<(), Fail> {
     write(&rt, alloc, &mut store, 0, b"abcd", &first)?;
     store.truncate(FILE, 1, &first)?;
     write(&rt, alloc, &mut store, 5, b"z", &first)?;
-    assert_eq!(rt;
-        store.read_head(FILE, 7)?.as_slice(),
-        b"a\0\0\0\0z\0".as_slice()
-    );
+    reads(&rt, &store, b"a\0\0\0\0z\0")?;
     store.delete(FILE, &second)?;
-    assert_eq!(rt;
-        printed(alloc, &store.clones(FILE, 0)?)?.as_str(),
-        "2:2, none"
-    );
-    assert_eq!(rt; store.read_head(FILE, 2)?.as_slice(), b"\0\0".as_slice());
-    assert_eq!(rt;
-        store.read_at(FILE, 2, SnapId(2))?.as_slice(),
-        b"a\0".as_slice()
-    );
-    Ok(())
+    lists(&rt, alloc, &store, 0, "2:2, none")?;
+    reads(&rt, &store, b"\0\0")?;
+    reads_at(&rt, &store, 2, b"a\0")
 }
 
 // Lays bytes over others.
-fn lay(plain: &mut Vec<u8>, offset: usize, bytes: &[u8]) {
+fn lay(plain: &mut [u8], offset: usize, bytes: &[u8]) {
     for (byte, new) in plain.iter_mut().skip(offset).zip(bytes) {
         *byte = *new;
     }
+}
+
+// Writes to the store and to plain bytes.
+fn write_both(
+    rt: &impl Abort,
+    alloc: Global,
+    store: &mut ObjectStore,
+    plain: &mut [u8],
+    offset: u32,
+    text: &[u8],
+) -> Result<(), Fail> {
+    let first = context(alloc, 1, &[])?;
+    write(rt, alloc, store, offset, text, &first)?;
+    lay(plain, offset as usize, text);
+    Ok(())
 }
 
 #[test]
 fn five_hundred_extents(rt: HostRuntime) -> Result<(), Fail> {
     let alloc = rt.alloc();
     let mut store = ObjectStore::new(alloc, 4096);
-    let first = context(alloc, 1, &[])?;
     let mut plain = vec![in alloc; 0u8; 4096]?;
     for i in 0..500u32 {
-        let offset = i * 8 + i % 3;
         let text = [(i % 251) as u8, 7, 9];
-        write(&rt, alloc, &mut store, offset, &text, &first)?;
-        lay(&mut plain, offset as usize, &text);
+        write_both(&rt, alloc, &mut store, &mut plain, i * 8 + i % 3, &text)?;
     }
-    assert_eq!(rt; store.read_head(FILE, 4096)?.as_slice(), plain.as_slice());
+    reads(&rt, &store, &plain)?;
     for i in 0..100u32 {
-        let offset = i * 37;
         let text = [1, (i % 251) as u8, 2, 3, 4, 5, 6, 8, 9, 10, 11, 12];
-        write(&rt, alloc, &mut store, offset, &text, &first)?;
-        lay(&mut plain, offset as usize, &text);
-        assert_eq!(rt; store.read_head(FILE, 4096)?.as_slice(), plain.as_slice());
+        write_both(&rt, alloc, &mut store, &mut plain, i * 37, &text)?;
+        reads(&rt, &store, &plain)?;
     }
     Ok(())
 }

@@ -1,4 +1,4 @@
-use Rattle.std.proofs.Common.{◌≡◌, ℕ, ◌+◌, ◌<◌, ◌≤◌, length, List, ◌∷◌, [], ◌++◌, append-nil, ◌≢◌, arith, rules, sym, ◌∙◌, ap, subst, length-append}
+use Rattle.std.proofs.Common.{◌≡◌, ◌+◌, ◌<◌, length, List, [], ◌++◌, append-nil, arith, sym, ◌∙◌, ap, subst, length-append}
 use Rattle.object_clones.specs.Extents.{Rise}
 use Rattle.object_clones.specs.declared.extents.Extent.{Extent}
 use Rattle.object_clones.proofs.Rises.{rise_upto, rise_push, rise_grow}

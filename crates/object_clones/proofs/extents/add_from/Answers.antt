@@ -1,8 +1,8 @@
-use Rattle.std.proofs.Common.{◌≡◌, ℕ, ◌+◌, ◌-◌, ◌≤◌, ◌<◌, min, max, List, length, take, drop, nat_lt, if◌then◌else◌, arith, ◌∙◌, sym, ap, subst, length-drop}
+use Rattle.std.proofs.Common.{◌≡◌, ℕ, ◌+◌, ◌-◌, ◌≤◌, ◌<◌, max, length, take, drop, nat_lt, if◌then◌else◌, arith, ◌∙◌, sym, ap, length-drop}
 use Rattle.std.proofs.lemmas.List.{take_rest}
 use Rattle.object_log.specs.Bytes.{laid}
 use Rattle.object_clones.specs.Extents.{Rise, byte_in, byte_over}
-use Rattle.object_clones.proofs.Rises.{rise_upto, rise_from}
+use Rattle.object_clones.proofs.Rises.{rise_upto}
 use Rattle.object_clones.proofs.Steps.{byte_more, rise_more, rise_none, rest_more, rest_same}
 use Rattle.object_clones.proofs.extents.add_from.Goals as goal
 use Rattle.object_clones.proofs.extents.add_from.Goals.{then-skipped-len+in_ok-add, else-skipped-len}

@@ -1,4 +1,4 @@
-use Rattle.std.proofs.Common.{◌≡◌, ℕ, ◌≤◌, max, nat_lt, if◌then◌else◌, take, drop}
+use Rattle.std.proofs.Common.{◌≡◌, ℕ, max, nat_lt, if◌then◌else◌, take, drop}
 use Rattle.object_clones.specs.Extents.{byte_in, byte_over, Rise}
 use Rattle.object_clones.proofs.extents.add_from.Given as goal
 

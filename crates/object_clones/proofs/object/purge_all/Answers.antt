@@ -1,4 +1,4 @@
-use Rattle.std.proofs.Common.{◌≡◌, ℕ, ◌+◌, ◌<◌, ◌++◌, [], List, Bool, map, filter, length, get_or, set, take, drop, append-nil, sym, ◌∙◌, ap, rules, arith}
+use Rattle.std.proofs.Common.{◌≡◌, ◌<◌, ◌++◌, List, Bool, map, filter, length, get_or, set, take, drop, append-nil, sym, ◌∙◌, ap, rules, arith}
 use Rattle.std.proofs.lemmas.Fn.{filter_same}
 use Rattle.std.proofs.lemmas.List.{map-set, get_or-map, length-map, take_at, take_all, drop_all}
 use Rattle.std.proofs.lemmas.List.Edits.{map_over_more}

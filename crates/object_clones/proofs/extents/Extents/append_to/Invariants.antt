@@ -1,4 +1,4 @@
-use Rattle.std.proofs.Common.{◌≡◌, ℕ, ◌+◌, ◌<◌, ◌≤◌, length, get_or, take}
+use Rattle.std.proofs.Common.{◌≡◌, ℕ, ◌+◌, ◌<◌, length, get_or, take}
 use Rattle.object_clones.specs.Extents.{byte_in}
 use Rattle.object_clones.proofs.extents.Extents.append_to.Given as goal
 

@@ -1,4 +1,4 @@
-use Rattle.std.proofs.Common.{◌≡◌, ℕ, ◌≤◌, length, take, arith, ◌∙◌, sym, ap}
+use Rattle.std.proofs.Common.{ℕ, length, take, arith, ◌∙◌, sym, ap}
 use Rattle.object_clones.specs.Extents.{byte_in}
 use Rattle.object_clones.proofs.Laid.{cut_in}
 use Rattle.object_clones.proofs.Many.{so_many_same, take-so_many, length-so_many}

@@ -1,4 +1,4 @@
-use Rattle.std.proofs.Common.{◌≡◌, ℕ, ◌+◌, ◌≤◌, max, List, length, get_or, nat_lt, if◌then◌else◌, arith, ◌∙◌, sym, refl, ap}
+use Rattle.std.proofs.Common.{◌≡◌, ℕ, ◌+◌, max, List, length, get_or, nat_lt, if◌then◌else◌, arith, ◌∙◌, sym, refl, ap}
 use Rattle.object_log.specs.Bytes.{so_many, laid, cut_off}
 use Rattle.object_clones.specs.Extents.{byte_in, byte_over}
 use Rattle.object_clones.specs.declared.extents.Extent.{Extent}

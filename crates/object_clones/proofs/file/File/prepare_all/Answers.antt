@@ -1,4 +1,4 @@
-use Rattle.std.proofs.Common.{◌≡◌, ℕ, ◌+◌, ◌-◌, ◌*◌, ◌<◌, ◌≤◌, List, Option, None, Some, true, false, length, ◌++◌, ◌∷◌, [], arith, sym, ◌∙◌, ap, subst, ⊎_elim, length-append}
+use Rattle.std.proofs.Common.{◌≡◌, ℕ, ◌+◌, ◌*◌, ◌<◌, ◌≤◌, List, Option, None, length, ◌++◌, ◌∷◌, [], arith, ◌∙◌, ap, subst, ⊎_elim, length-append}
 use Rattle.std.specs.Option.{option_map, IsSome}
 use Rattle.std.proofs.lemmas.Bool.{cases_lt}
 use Rattle.object_clones.specs.declared.object.Change.{Change}

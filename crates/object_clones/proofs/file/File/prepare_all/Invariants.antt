@@ -1,4 +1,4 @@
-use Rattle.std.proofs.Common.{◌≡◌, ℕ, ◌+◌, ◌-◌, ◌*◌, ◌<◌, ◌≤◌, length}
+use Rattle.std.proofs.Common.{◌≡◌, ℕ, ◌+◌, ◌*◌, ◌<◌, ◌≤◌, length}
 use Rattle.object_clones.specs.Purged.{has}
 use Rattle.object_clones.specs.Objects.{change_of}
 use Rattle.object_clones.specs.Files.{object_in, change_at, HasRooms}

@@ -1,4 +1,4 @@
-use Rattle.std.proofs.Common.{◌≡◌, ℕ, ◌+◌, ◌*◌, ◌/◌, ◌<◌, ◌≤◌, ◌⊎◌, List, Option, length, arith, ◌∙◌, ap, ⊎_elim, inl, inr}
+use Rattle.std.proofs.Common.{◌+◌, ◌*◌, ◌/◌, ◌<◌, ◌≤◌, ◌⊎◌, length, arith, ◌∙◌, ap, ⊎_elim, inl, inr}
 use Rattle.object_clones.specs.declared.object.Edit.{Edit}
 use Rattle.object_clones.specs.Objects.{head_after}
 use Rattle.object_clones.specs.Files.{object_in}

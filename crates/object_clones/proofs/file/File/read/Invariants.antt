@@ -1,4 +1,4 @@
-use Rattle.std.proofs.Common.{◌≡◌, ℕ, ◌+◌, ◌*◌, ◌≤◌, min}
+use Rattle.std.proofs.Common.{◌≡◌, ◌*◌, min}
 use Rattle.object_clones.specs.Files.{object_in, bytes_read}
 use Rattle.object_clones.proofs.file.File.read.Given as goal
 

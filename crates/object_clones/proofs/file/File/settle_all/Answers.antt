@@ -1,12 +1,10 @@
-use Rattle.std.proofs.Common.{◌≡◌, ◌≢◌, ℕ, ◌+◌, ◌<◌, ◌≤◌, List, Option, None, Some, true, false, length, ◌++◌, ◌∷◌, [], arith, sym, ◌∙◌, ap, subst, ⊎_elim, length-append}
+use Rattle.std.proofs.Common.{◌≡◌, ◌≢◌, ℕ, ◌+◌, ◌<◌, ◌≤◌, List, Option, None, length, ◌++◌, ◌∷◌, [], arith, sym, ◌∙◌, ap, subst, ⊎_elim, length-append}
 use Rattle.std.specs.Option.{option_map, IsSome}
-use Rattle.std.specs.Ordering.{nat_cmp}
-use Rattle.std.specs.BTreeMap.{get}
 use Rattle.std.proofs.lemmas.Bool.{cases_lt}
 use Rattle.object_clones.specs.declared.object.Change.{Change}
 use Rattle.object_clones.specs.declared.object.Object.{Object}
-use Rattle.object_clones.specs.Objects.{Next, Plain, HasRoom, next, changed}
-use Rattle.object_clones.specs.Files.{object_in, plain_or_blank, change_at, HasRoomAt}
+use Rattle.object_clones.specs.Objects.{Next, HasRoom, next, changed}
+use Rattle.object_clones.specs.Files.{object_in, plain_or_blank, change_at}
 use Rattle.object_clones.proofs.Changes.{change_at_last, change_at_front, change_at_past, change_at_before}
 use Rattle.object_clones.proofs.file.File.settle_all.Goals as goal
 

@@ -1,4 +1,4 @@
-use Rattle.std.proofs.Common.{◌≡◌, ℕ, ◌+◌, ◌≤◌, ◌^◌, length, vec_len}
+use Rattle.std.proofs.Common.{◌≡◌, ℕ, ◌+◌, ◌≤◌, ◌^◌, vec_len}
 use Rattle.object_clones.specs.Objects.{changed}
 use Rattle.object_clones.specs.Files.{object_in, change_at, HasRooms}
 use Rattle.object_clones.proofs.file.File.settle_all.Given as goal

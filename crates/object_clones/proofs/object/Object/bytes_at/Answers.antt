@@ -1,4 +1,4 @@
-use Rattle.std.proofs.Common.{◌≡◌, Bool, true, false, List, ℕ, Option, Some, None, if◌then◌else◌, sym, ◌∙◌, ap}
+use Rattle.std.proofs.Common.{Some, None, sym, ◌∙◌}
 use Rattle.snap_ids.specs.Context.{is_listed}
 use Rattle.object_clones.specs.declared.object.Saved.{Saved}
 use Rattle.object_clones.specs.Objects.{clone_at, plain}

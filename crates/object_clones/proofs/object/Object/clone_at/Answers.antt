@@ -1,7 +1,7 @@
-use Rattle.std.proofs.Common.{◌≡◌, ℕ, ◌+◌, ◌∷◌, [], ◌++◌, List, Bool, true, false, cond, nat_le, Option, Some, None, get_or, take, sym, ◌∙◌, refl, ap, subst, arith}
+use Rattle.std.proofs.Common.{◌≡◌, ◌∷◌, [], ◌++◌, List, Bool, true, false, cond, nat_le, Some, None, take, sym, ◌∙◌, ap, arith}
 use Rattle.std.specs.List.{find}
 use Rattle.std.specs.Option.{option_to_list}
-use Rattle.std.proofs.lemmas.List.{take_more, take_all}
+use Rattle.std.proofs.lemmas.List.{take_more}
 use Rattle.object_clones.specs.declared.object.Saved.{Saved}
 use Rattle.object_clones.proofs.Clones.{find_here, find_none, found_last}
 use Rattle.object_clones.proofs.object.Object.clone_at.Goals as goal

@@ -1,4 +1,4 @@
-use Rattle.std.proofs.Common.{◌≡◌, ◌++◌, List, Option, map, sym, ◌∙◌, ap}
+use Rattle.std.proofs.Common.{◌++◌, List, Option, map, sym, ◌∙◌, ap}
 use Rattle.std.specs.Option.{option_map, option_to_list}
 use Rattle.object_clones.specs.declared.object.Saved.{Saved}
 use Rattle.object_clones.specs.Objects.{Kept, Plain, kept, purged_clones}

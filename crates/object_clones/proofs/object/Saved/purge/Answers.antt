@@ -1,8 +1,8 @@
-use Rattle.std.proofs.Common.{◌≡◌, rules, ap, ◌∙◌, List, Bool, not, eqb, filter}
+use Rattle.std.proofs.Common.{rules, ap, ◌∙◌, List, Bool, not, eqb, filter}
 use Rattle.std.proofs.lemmas.Fn.{filter_same}
 use Rattle.snap_ids.specs.declared.id.SnapId.{SnapId}
 use Rattle.object_clones.specs.Objects.{Kept}
-use Rattle.object_clones.proofs.Tests.{other_id}
+use Rattle.object_clones.proofs.Decided.{other_id}
 use Rattle.object_clones.proofs.object.Saved.purge.Goals as goal
 
 pub returns : goal.returns

@@ -1,7 +1,7 @@
 use Rattle.std.proofs.lemmas.Result.{on_ok_weaker, on_err_weaker}
 use Rattle.plain_types.specs.declared.message.ToStore.TheVariants as message
 use Rattle.object_clones.specs.declared.object.Edit.TheVariants as edit
-use Rattle.object_clones.proofs.Taken.{edited_stands, same_stands, says_delete, says_cut}
+use Rattle.object_clones.proofs.Taken.{edited_stands, same_stands, says_delete}
 use Rattle.object_clones.proofs.store.ObjectStore.delete.Goals as goal
 
 pub returns-clause-ok : goal.returns-clause-ok

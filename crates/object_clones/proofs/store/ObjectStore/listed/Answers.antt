@@ -1,6 +1,6 @@
-use Rattle.std.proofs.Common.{◌≡◌, ℕ, ◌∙◌, sym, ap}
+use Rattle.std.proofs.Common.{◌≡◌, ◌∙◌, sym, ap}
 use Rattle.std.proofs.lemmas.Result.{IfOk-weaker}
-use Rattle.object_clones.specs.Objects.{Plain, list_of}
+use Rattle.object_clones.specs.Objects.{list_of}
 use Rattle.object_clones.specs.Store.{Shown, object_at, object_among}
 use Rattle.object_clones.proofs.Stores.{object_at-plain_files}
 use Rattle.object_clones.proofs.store.ObjectStore.listed.Goals as goal

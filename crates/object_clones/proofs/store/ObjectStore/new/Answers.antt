@@ -1,4 +1,4 @@
-use Rattle.std.proofs.Common.{◌≡◌, ◌<◌, [], map, sym, subst, arith}
+use Rattle.std.proofs.Common.{[], map, sym, subst, arith}
 use Rattle.object_clones.specs.Store.{Shown, plain_file}
 use Rattle.object_clones.specs.Stands.{StandsFor}
 use Rattle.object_clones.proofs.Taken.{new_stands}

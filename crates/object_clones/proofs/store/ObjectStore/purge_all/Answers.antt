@@ -1,4 +1,4 @@
-use Rattle.std.proofs.Common.{◌≡◌, ℕ, ◌||◌, eqb, List, sym, ◌∙◌, ap}
+use Rattle.std.proofs.Common.{◌≡◌, ℕ, ◌||◌, eqb, sym, ◌∙◌, ap}
 use Rattle.object_clones.specs.Objects.{purged}
 use Rattle.object_clones.specs.Purged.{has_id}
 use Rattle.object_clones.specs.Store.{Shown, object_at, object_among}

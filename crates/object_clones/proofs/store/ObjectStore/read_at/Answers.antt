@@ -1,5 +1,4 @@
-use Rattle.std.proofs.Common.{◌≡◌, true, false, Bool, List, ℕ, sym, ◌∙◌, refl, ap}
-use Rattle.plain_types.specs.declared.message.ToStore.{ToStore}
+use Rattle.std.proofs.Common.{◌≡◌, true, false, sym, ◌∙◌, refl, ap}
 use Rattle.object_log.specs.Bytes.{was_purged}
 use Rattle.object_clones.specs.Purged.{has_id}
 use Rattle.object_clones.specs.Store.{Shown}

@@ -1,6 +1,5 @@
-use Rattle.std.proofs.Common.{◌≡◌, ◌++◌, ◌∷◌, [], ℕ, List, subst}
+use Rattle.std.proofs.Common.{◌++◌, ◌∷◌, [], ℕ, List, subst}
 use Rattle.std.proofs.lemmas.Result.{on_ok_weaker, on_err_weaker}
-use Rattle.plain_types.specs.declared.message.ToStore.{ToStore}
 use Rattle.plain_types.specs.declared.message.ToStore.TheVariants as message
 use Rattle.object_clones.specs.declared.object.Edit.TheVariants as edit
 use Rattle.object_clones.specs.Stands.{StandsFor}
