@@ -386,38 +386,50 @@ fn long_name(alloc: Global, number: usize) -> Result<String, AllocError> {
     Ok(name)
 }
 
-// 500 directories with long names in one, a snapshot of it, and lists of both: the largest number of lines.
-fn largest(alloc: Global) -> Result<String, AllocError> {
+// So many directories with long names in one, a snapshot of it, and so many pairs of a list of it and of the snapshot.
+fn wide(alloc: Global, dirs: usize, pairs: usize) -> Result<String, AllocError> {
     let mut input = String::from_str(alloc, "clients 1\n1 mkdir /d\n")?;
-    for number in 0..500 {
+    for number in 0..dirs {
         let name = long_name(alloc, number)?;
         input.push_str("1 mkdir /d/")?;
         input.push_str(&name)?;
         input.push_str("\n")?;
     }
     input.push_str("1 mkdir /d/.snap/s\n")?;
-    for _ in 0..5 {
+    for _ in 0..pairs {
         input.push_str("1 ls /d\n1 ls /d/.snap/s\n")?;
     }
     input.push_str("schedule\nall\n")?;
     Ok(input)
 }
 
-#[test]
-fn the_largest_script_is_run(rt: HostRuntime) -> Result<(), Fail> {
+// A wide script of 512 lines, whose lists have so many bytes of names.
+fn run_wide<R: Abort + AllocGlobal>(
+    rt: &R,
+    dirs: usize,
+    pairs: usize,
+    names: usize,
+) -> Result<(), Fail> {
     let alloc = rt.alloc();
     let words = vec![in alloc;
         String::from_str(alloc, "snapctl")?,
         String::from_str(alloc, "replay")?,
     ]?;
-    let report = run_bytes(alloc, &words, largest(alloc)?.as_bytes());
+    let report = run_bytes(alloc, &words, wide(alloc, dirs, pairs)?.as_bytes());
     assert_eq!(rt; report.status, 0);
     assert_eq!(rt; report.history.as_slice().len(), 512);
-    // 502 short lines with their numbers, ten lists of 500 names, and the last line.
-    let lists = 10 * (500 * 66);
-    assert!(rt; lists < report.text.len() && report.text.len() < lists + 8_000);
+    assert!(rt; names < report.text.len());
+    // The rest are the lines' numbers and their other answers.
+    assert!(rt; report.text.len() - names < 8_000);
     assert!(rt; report.text.as_slice().ends_with(b"done\n"));
     Ok(())
+}
+
+#[test]
+fn the_largest_scripts_are_run(rt: HostRuntime) -> Result<(), Fail> {
+    // As many directories as may be, and then as many bytes of replies: each name has 64 bytes, a space and a `/`.
+    run_wide(&rt, 500, 5, 330_000)?;
+    run_wide(&rt, 256, 127, 4_291_584)
 }
 
 #[test]
