@@ -1,0 +1,4 @@
+pub mod Op
+pub mod Rising
+pub mod Table
+pub mod Fields
