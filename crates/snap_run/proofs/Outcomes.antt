@@ -29,8 +29,8 @@ module _ (words : List (List ℕ)) (reading : Reading) (writing : Writing) (end 
   at : (wanted : End) → end ≡ wanted → IsOutcome words reading writing wanted history
   at wanted is = subst (λ (e : End). IsOutcome words reading writing e history) is outcome
 
-  pub at_done : end ≡ ending.Done → (printed : List ℕ) × RunsAll words reading history printed × Appends writing.old writing.new printed × (writing.now ≡ writing.before)
-  at_done is = let done = at ending.Done is in (done.printed, done.verdict.0, done.all, done.sound)
+  pub at_done : end ≡ ending.Done → (printed : List ℕ) × RunsAll words reading history printed × ComesTo words reading ending.Done × Appends writing.old writing.new printed × (writing.now ≡ writing.before)
+  at_done is = let done = at ending.Done is in (done.printed, done.verdict.0, done.verdict.1, done.all, done.sound)
 
   pub at_usage : end ≡ ending.Usage → (is_replay words ≡ false) × (history ≡ []) × Appends writing.old writing.new (error_text ending.Usage)
   at_usage is =

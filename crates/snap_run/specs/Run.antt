@@ -1,6 +1,6 @@
 -- What a run of the program comes to.
 use Rattle.std.specs.Prelude.{◌≡◌, ℕ, true, false, List, [], ◌++◌, take, codes, decimal, map, string_bytes, String, IfSome, IsSomeAnd, Option, Ok}
-use Rattle.std.specs.Io.KnownBytes.{Appends, IsAtEnd}
+use Rattle.std.specs.Io.KnownBytes.{Consumes, Appends, IsAtEnd}
 use Rattle.plain_types.specs.declared.history.Event.{Event}
 use Rattle.plain_types.specs.declared.script.Script.{Script}
 use Rattle.plain_tree.specs.History.{replies}
@@ -65,9 +65,10 @@ pub record Reading : Type 0 where
 abbrev pub reading_of : {S : Type 0} → (S → Option (List ℕ)) → (S → ℕ) → S → S → Reading
 reading_of left faults old new = record { left = left old; after = left new; before = faults old; now = faults new }
 
--- the input is what the source had, up to one byte more than a script can have, and it was read without a fault
+-- the input is what the source had, up to one byte more than a script can have; no more was read, and without a fault
 pub record IsInputOf (reading : Reading) (input : List ℕ) : Type 0 where
   pub front : IfSome reading.left (λ bytes. input ≡ take 16777217 bytes)
+  pub taken : Consumes reading.left reading.after input
   pub sound : reading.now ≡ reading.before
 
 -- an input was read that comes to this end

@@ -65,6 +65,7 @@ pub fn run_tool<S: Source, W: Sink>(
     // The script that the source spells was run, each reply is the plain tree's, and the text of all was written.
     ensures done { result.end ≡ End.Done → (printed : List ℕ)
         × RunsAll (texts words.now) (reading_of S.left S.faults source.old source.new) result.history printed
+        × ComesTo (texts words.now) (reading_of S.left S.faults source.old source.new) End.Done
         × Appends (W.written sink.old) (W.written sink.new) printed
         × (W.faults sink.new ≡ W.faults sink.old) }
 

@@ -12,7 +12,7 @@ returns-in-Ok-clause-verdict g c =
     let same = sym c.deref.ensures.value in
     let reading = reading_of g.S.Source.left g.S.Source.faults c.args.source.now c.read_input.new.source in
     let replay : is_replay (texts c.args.words.now) ≡ true = cc in
-    let read : IsInputOf reading input = subst (IsInputOf reading) same (record { front = c.in-Ok.ensures.input; sound = c.in-Ok.ensures.sound }) in
+    let read : IsInputOf reading input = subst (IsInputOf reading) same (record { front = c.in-Ok.ensures.input; taken = c.in-Ok.ensures.taken; sound = c.in-Ok.ensures.sound }) in
     let at_end = subst (λ (l : List ℕ). length l ≤ 16777216 → IsAtEnd reading.after) same c.in-Ok.ensures.end in
     let run = c.run_input.ensures in
     verdict_from_clauses (texts c.args.words.now) reading input c.run_input.result replay read at_end run.end run.report run.short
