@@ -3,7 +3,8 @@ use Rattle.std.proofs.Common.{◌≡◌, ℕ, ◌+◌, ◌<◌, List, length, ge
 use Rattle.std.proofs.Math.Seq.{drop-cons}
 use Rattle.snap_ids.specs.declared.id.Ino.{Ino}
 use Rattle.plain_types.specs.declared.answer.Refusal.TheVariants.{NoEntry}
-use Rattle.plain_tree.specs.State.{Entry, lookup, walk}
+use Rattle.plain_tree.specs.State.{Entry, lookup}
+use Rattle.direct_history.specs.Walk.{walk}
 
 -- the next name is there
 pub walk_more : (entries : List Entry) (dir ino : Ino) (names : List (List ℕ)) (i : ℕ) (name : List ℕ) → i < length names → get_or names i name ≡ name → lookup entries dir name ≡ Some ino → walk entries dir (drop i names) ≡ walk entries ino (drop (i + 1) names)

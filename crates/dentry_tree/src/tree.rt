@@ -3,7 +3,8 @@ ghost use Rattle.std.specs.Prelude.{◌≡◌, ◌↔◌, ◌<◌, ◌≤◌, []
 ghost use Rattle.snap_ids.specs.declared.id.SnapId.{SnapId};
 ghost use Rattle.snap_ids.specs.declared.values.Kind.TheVariants.{Dir};
 ghost use Rattle.plain_types.specs.declared.answer.Refusal.TheVariants as refusal;
-ghost use Rattle.plain_tree.specs.State.{lookup, add, walk, listing};
+ghost use Rattle.plain_tree.specs.State.{lookup, add, listing};
+ghost use Rattle.direct_history.specs.Walk.{walk};
 ghost use Rattle.dentry_tree.specs.Dentries.{entries_at};
 
 use crate::error::TreeError;

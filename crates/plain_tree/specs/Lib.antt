@@ -1,8 +1,10 @@
+pub mod Bytes
 pub mod Change
 pub mod Cut
-pub mod Direct
 pub mod Example
 pub mod History
-pub mod Legal
 pub mod Line
+pub mod Query
+pub mod Request
 pub mod State
+pub mod Walk

@@ -1,97 +1,77 @@
--- What a line of a client asks, and the plain answer, with the refusals in their order.
-use Rattle.std.specs.Prelude.{ℕ, ◌-◌, Bool, true, false, not, ◌&&◌, List, [], ◌∷◌, length, take, if◌then◌else◌, slice_get, is_some, Option, None, Some, Result, Ok, Err}
-use Rattle.std.specs.Option.{option_map_or}
-use Rattle.snap_ids.specs.declared.id.Ino.{Ino}
+-- What each line of a client comes to, over a plain state that has its bytes.
+use Rattle.std.specs.Prelude.{ℕ, ◌+◌, length, not, if◌then◌else◌, Option, None, Some, Result, Ok, Err}
 use Rattle.snap_ids.specs.declared.id.SnapId.{SnapId}
-use Rattle.snap_ids.specs.declared.id.TheConstants.{ROOT}
-use Rattle.snap_ids.specs.Name.{is_new, is_new_snap, is_dot_snap, begins_with_underscore}
-use Rattle.snap_ids.specs.Path.{Place, Live, Snaps, InSnap, place_of}
 use Rattle.plain_types.specs.declared.answer.Answer.{Answer}
-use Rattle.plain_types.specs.declared.answer.Answer.TheVariants.{Done, Snap, Refused, Listed}
+use Rattle.plain_types.specs.declared.answer.Answer.TheVariants.{Done, Snap, Opened, Refused, FileBytes}
 use Rattle.plain_types.specs.declared.answer.Refusal.{Refusal}
-use Rattle.plain_types.specs.declared.answer.Refusal.TheVariants.{BadName, Exists, ReadOnly}
+use Rattle.plain_types.specs.declared.answer.Refusal.TheVariants.{BadHandle, ReadOnly, TooLarge}
 use Rattle.plain_types.specs.declared.change.Change.{Change}
 use Rattle.plain_types.specs.declared.change.Change.TheVariants as change
-use Rattle.plain_types.specs.declared.decision.Decision.{Decision}
-use Rattle.plain_types.specs.declared.decision.Decision.TheVariants.{Put, Say}
+use Rattle.plain_types.specs.declared.request.Request.{Request}
+use Rattle.plain_types.specs.declared.request.Request.TheVariants as request
 use Rattle.plain_types.specs.declared.script.Line.{Line}
 use Rattle.plain_types.specs.declared.script.Line.TheVariants as line
-use Rattle.plain_tree.specs.State.{State, kind_in, lookup, walk, listing, next_ino}
-use Rattle.plain_tree.specs.Change.{has_snap}
+use Rattle.plain_tree.specs.State.{State, Handle}
+use Rattle.plain_tree.specs.Change.{open_of, is_too_large}
+use Rattle.plain_tree.specs.Query.{bytes_in}
+use Rattle.plain_tree.specs.Request.{change_asked}
 
--- what is done at the inode where a walk ends; a walk that fails is refused
-abbrev pub at_end : Result Ino Refusal → (Ino → Decision) → Decision
-at_end (Ok ino) go_on = go_on ino
-at_end (Err refusal) go_on = Say (Refused refusal)
+-- what the server is asked for a line of the tree; `barrier` has its number from the lines before it, and the others are
+-- the client's own
+abbrev pub request_of : Line → Option Request
+request_of (line.Mkdir path) = Some (request.Mkdir path)
+request_of (line.Rmdir path) = Some (request.Rmdir path)
+request_of (line.Create path mode) = Some (request.Create path mode)
+request_of (line.Unlink path) = Some (request.Unlink path)
+request_of (line.Link path target) = Some (request.Link path target)
+request_of (line.Rename path target) = Some (request.Rename path target)
+request_of (line.Chmod path mode) = Some (request.Chmod path mode)
+request_of (line.Open handle path writable) = Some (request.Open handle path writable)
+request_of (line.Close handle) = Some (request.Close handle)
+request_of (line.Cat path) = Some (request.Cat path)
+request_of (line.Stat path) = Some (request.Stat path)
+request_of (line.List path) = Some (request.List path)
+request_of (line.Realm path) = Some (request.Realm path)
+request_of (line.Clones path index) = Some (request.Clones path index)
+request_of (line.Write handle offset bytes) = None
+request_of (line.Truncate handle size) = None
+request_of (line.Read handle) = None
+request_of line.Barrier = None
+request_of line.Break = None
 
--- a new directory: a name that can't be new is refused before one that is taken
-abbrev pub new_entry : State → List ℕ → Ino → Decision
-new_entry state name dir =
-    if not (is_new name) then Say (Refused BadName)
-    else (if is_some (lookup state.entries dir name) then Say (Refused Exists)
-    else Put (change.Mkdir dir name (next_ino state)))
+-- a change of an open file's bytes, where they end at this size
+abbrev pub data_change : Option Handle → ℕ → Change → Result Change Refusal
+data_change None size made = Err BadHandle
+data_change (Some opened) size made =
+    if not opened.writable then Err ReadOnly
+    else (if is_too_large size then Err TooLarge
+    else Ok made)
 
--- a new snapshot with this id: the same, over the names of the directory's live snapshots
-abbrev pub new_snap : State → SnapId → List ℕ → Ino → Decision
-new_snap state id name dir =
-    if not (is_new_snap name) then Say (Refused BadName)
-    else (if has_snap state.snaps dir name then Say (Refused Exists)
-    else Put (change.Mksnap id dir name))
+-- what a request of a line comes to, where it is one for a change
+abbrev pub server_change : State → ℕ → SnapId → Option Request → Option (Result Change Refusal)
+server_change state client id None = None
+server_change state client id (Some asked) = change_asked state client id asked
 
--- `mkdir` of a path whose last name is given: the others lead to the parent
-abbrev pub mkdir_last : State → List (List ℕ) → Option (List ℕ) → Decision
-mkdir_last state path None = Say (Refused BadName)
-mkdir_last state path (Some name) = at_end (walk state.entries ROOT (take (length path - 1) path)) (new_entry state name)
+-- the change that a client's line comes to, or why not; other lines make none
+abbrev pub change_by : State → ℕ → SnapId → Line → Option (Result Change Refusal)
+change_by state client id (line.Write handle offset bytes) =
+    Some (data_change (open_of state.handles client handle) (offset + length bytes) (change.WriteFile handle offset bytes))
+change_by state client id (line.Truncate handle size) =
+    Some (data_change (open_of state.handles client handle) size (change.Truncate handle size))
+change_by state client id line = server_change state client id (request_of line)
 
--- `mkdir`: what stands under `.snap` is read-only, but for a new snapshot
-abbrev pub mkdir : State → SnapId → Place → Decision
-mkdir state id (Live path) = mkdir_last state path (slice_get path (length path - 1))
-mkdir state id (Snaps dir) = Say (Refused ReadOnly)
-mkdir state id (InSnap dir name []) = at_end (walk state.entries ROOT dir) (new_snap state id name)
-mkdir state id (InSnap dir name (below ∷ rest)) = Say (Refused ReadOnly)
+-- the answer to a change that succeeded
+abbrev pub answer_to : Change → Answer
+answer_to (change.Mksnap id dir name) = Snap id
+answer_to (change.OpenFile handle ino writable) = Opened ino
+answer_to change = Done
 
--- `ls` from a directory
-abbrev pub list_from : State → Ino → List (List ℕ) → Decision
-list_from state dir path =
-    at_end (walk state.entries dir path) (λ found. Say (Listed (listing (kind_in state.inodes) state.entries found)))
+-- the answer to what a change comes to
+abbrev pub change_answer : Result Change Refusal → Answer
+change_answer (Ok change) = answer_to change
+change_answer (Err refusal) = Refused refusal
 
--- the last name of the path is `.snap`
-abbrev pub ends_in_snap : List (List ℕ) → Bool
-ends_in_snap path = option_map_or is_dot_snap (slice_get path (length path - 1)) false
-
--- the place is in a snapshot whose name begins with `_`, as inherited ones do
-abbrev pub is_in_inherited : Place → Bool
-is_in_inherited (InSnap dir name below) = begins_with_underscore name
-is_in_inherited (Live path) = false
-is_in_inherited (Snaps dir) = false
-
--- The lines that a server takes yet: `mkdir`, and `ls` of what is no list of snapshots and in no inherited one. No
--- history is legal for another line.
-abbrev pub is_served : Line → Bool
-is_served (line.Mkdir path) = true
-is_served (line.List path) = not (ends_in_snap path) && not (is_in_inherited (place_of path))
-is_served line = false
-
--- what such a line comes to, where a snapshot that it makes gets this id
-abbrev pub decide : State → SnapId → Line → Decision
-decide state id (line.Mkdir path) = mkdir state id (place_of path)
-decide state id (line.List path) = list_from state ROOT path
-decide state id line = Say (Refused ReadOnly)
-
--- the answer to a change that succeeds
-abbrev pub answer_of_change : Change → Answer
-answer_of_change (change.Mksnap id dir name) = Snap id
-answer_of_change change = Done
-
-abbrev pub answer_of : Decision → Answer
-answer_of (Put change) = answer_of_change change
-answer_of (Say answer) = answer
-
--- the change that a line makes
-abbrev pub change_of : Decision → Option Change
-change_of (Put change) = Some change
-change_of (Say answer) = None
-
--- the plain answer to a client's line
-abbrev pub plain : State → ℕ → SnapId → Line → Answer
-plain state client id line = answer_of (decide state id line)
+-- the answer to `read`
+abbrev pub read_answer : State → Option Handle → Answer
+read_answer state None = Refused BadHandle
+read_answer state (Some opened) = FileBytes (bytes_in state opened.ino)

@@ -1,15 +1,13 @@
 -- The plain state: a tree with nothing but what it is now, and the snapshots that were made.
-use Rattle.std.specs.Prelude.{ℕ, ◌+◌, ◌-◌, Bool, ◌&&◌, ◌||◌, ◌==◌, nat_lt, List, [], ◌∷◌, length, map, filter, if◌then◌else◌, bytes_eq, Option, None, Some, Result, Ok, Err}
+use Rattle.std.specs.Prelude.{ℕ, ◌+◌, ◌-◌, Bool, ◌&&◌, ◌||◌, ◌==◌, nat_lt, List, [], ◌∷◌, length, map, filter, if◌then◌else◌, bytes_eq, Option, None, Some}
 use Rattle.std.specs.List.{list_any}
 use Rattle.std.specs.Ordering.{is_lt, nat_cmp}
 use Rattle.std.specs.Cmp.Lexicographic.{slice_cmp}
 use Rattle.snap_ids.specs.declared.id.Ino.{Ino}
 use Rattle.snap_ids.specs.declared.id.SnapId.{SnapId}
-use Rattle.snap_ids.specs.declared.id.TheConstants.{ROOT, FIRST_INO, FIRST_SNAP}
+use Rattle.snap_ids.specs.declared.id.TheConstants.{ROOT, FIRST_INO}
 use Rattle.snap_ids.specs.declared.values.Kind.{Kind}
 use Rattle.snap_ids.specs.declared.values.Kind.TheVariants.{Dir}
-use Rattle.plain_types.specs.declared.answer.Refusal.{Refusal}
-use Rattle.plain_types.specs.declared.answer.Refusal.TheVariants.{NoEntry}
 
 -- a name in a directory, and the inode that it names
 pub record Entry : Type 0 where
@@ -57,10 +55,6 @@ start = record { entries = []; inodes = new_directory ROOT ∷ []; handles = [];
 abbrev pub next_ino : State → Ino
 next_ino state = record { 0 = FIRST_INO.0 + (length state.inodes - 1) }
 
--- snapshots too, from 2 on
-abbrev pub next_snap : State → SnapId
-next_snap state = record { 0 = FIRST_SNAP.0 + length state.snaps }
-
 abbrev pub same_ino : Ino → Ino → Bool
 same_ino x y = x.0 == y.0
 
@@ -95,11 +89,10 @@ abbrev pub add : Entry → List Entry → List Entry
 add new [] = new ∷ []
 add new (entry ∷ entries) = if precedes new entry then new ∷ entry ∷ entries else entry ∷ add new entries
 
--- the inode at the end of a path from a directory, or the refusal at the first name that isn't there
-abbrev pub walk : List Entry → Ino → List (List ℕ) → Result Ino Refusal
-walk entries dir [] = Ok dir
-walk entries dir (name ∷ names) =
-    elim (lookup entries dir name) [ None ↦ Err NoEntry | Some ino ↦ walk entries ino names ]
+-- an inode of the list; a directory where the list doesn't have it
+abbrev pub inode_in : List Inode → Ino → Inode
+inode_in [] ino = new_directory ino
+inode_in (inode ∷ inodes) ino = if same_ino inode.ino ino then inode else inode_in inodes ino
 
 -- what a directory lists: its entries by the bytes of their names, each with what it is
 abbrev pub listing : (Ino → Kind) → List Entry → Ino → List (List ℕ × Kind)

@@ -16,9 +16,10 @@ use Rattle.plain_types.specs.declared.decision.Decision.{Decision}
 use Rattle.plain_types.specs.declared.decision.Decision.TheVariants.{Put, Say}
 use Rattle.plain_types.specs.declared.script.Line.{Line}
 use Rattle.plain_types.specs.declared.script.Line.TheVariants as line
-use Rattle.plain_tree.specs.State.{State, is_there, lookup, walk, next_ino}
-use Rattle.plain_tree.specs.Change.{has_snap, is_refused, state_after}
-use Rattle.plain_tree.specs.Line.{at_end, new_entry, new_snap, mkdir_last, mkdir, list_from, decide, change_of}
+use Rattle.plain_tree.specs.State.{State, is_there, lookup, next_ino}
+use Rattle.direct_history.specs.Walk.{walk}
+use Rattle.direct_history.specs.Change.{has_snap, is_refused, state_after}
+use Rattle.direct_history.specs.Line.{at_end, new_entry, new_snap, mkdir_last, mkdir, list_from, decide, change_of}
 use Rattle.snap_run.proofs.Plain.{walked_there}
 
 -- a snapshot has this id

@@ -11,10 +11,11 @@ use Rattle.plain_types.specs.declared.answer.Refusal.TheVariants.{Exists}
 use Rattle.plain_types.specs.declared.change.Change.TheVariants.{Mksnap}
 use Rattle.plain_types.specs.declared.decision.Decision.{Decision}
 use Rattle.plain_types.specs.declared.decision.Decision.TheVariants.{Put, Say}
-use Rattle.plain_tree.specs.State.{State, Snapshot, is_named, walk}
-use Rattle.plain_tree.specs.Change.{has_snap}
-use Rattle.plain_tree.specs.Line.{at_end, new_entry, new_snap, mkdir_last, change_of}
-use Rattle.plain_tree.specs.Legal.{snap_named}
+use Rattle.plain_tree.specs.State.{State, Snapshot, is_named}
+use Rattle.direct_history.specs.Walk.{walk}
+use Rattle.direct_history.specs.Change.{has_snap}
+use Rattle.direct_history.specs.Line.{at_end, new_entry, new_snap, mkdir_last, change_of}
+use Rattle.direct_history.specs.Legal.{snap_named}
 
 slice_get_seam : (parent : List (List ℕ)) (name : List ℕ) → slice_get (parent ++ name ∷ []) (length parent) ≡ Some name
 slice_get_seam [] name = refl

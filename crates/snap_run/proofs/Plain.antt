@@ -11,8 +11,9 @@ use Rattle.plain_types.specs.declared.answer.Refusal.TheVariants.{NoEntry}
 use Rattle.plain_types.specs.declared.change.Change.{Change}
 use Rattle.plain_types.specs.declared.change.Change.TheVariants.{Mkdir, Mksnap}
 use Rattle.plain_types.specs.declared.change.Effect.{Effect}
-use Rattle.plain_tree.specs.State.{State, Entry, Inode, start, kind_in, same_ino, is_there, is_at, lookup, walk, new_directory}
-use Rattle.plain_tree.specs.Change.{apply, make, is_refused, state_after}
+use Rattle.plain_tree.specs.State.{State, Entry, Inode, start, kind_in, same_ino, is_there, is_at, lookup, new_directory}
+use Rattle.direct_history.specs.Walk.{walk}
+use Rattle.direct_history.specs.Change.{apply, make, is_refused, state_after}
 
 -- one more effect is applied to the state after the others
 pub state_after-push : (done : List Effect) (effect : Effect) → state_after (done ++ effect ∷ []) ≡ apply (state_after done) effect.client effect.change

@@ -14,12 +14,13 @@ use Rattle.plain_types.specs.declared.change.Change.TheVariants.{Mkdir, Mksnap}
 use Rattle.plain_types.specs.declared.change.Effect.{Effect}
 use Rattle.plain_types.specs.declared.history.Event.{Event}
 use Rattle.plain_types.specs.declared.script.Line.{Line}
-use Rattle.plain_tree.specs.State.{Entry, Snapshot, is_named, next_snap}
-use Rattle.plain_tree.specs.Change.{state_after}
-use Rattle.plain_tree.specs.Line.{change_of, list_from}
-use Rattle.plain_tree.specs.History.{effects, before_snap}
-use Rattle.plain_tree.specs.Direct.{tree_so_far, ServesAfter, OfOneClient}
-use Rattle.plain_tree.specs.Legal.{Asked, one_more, numbered_after, numbered, IsServed, line_answer, change_by, effects_of, snap_named}
+use Rattle.plain_tree.specs.State.{Entry, Snapshot, is_named}
+use Rattle.direct_history.specs.Walk.{next_snap}
+use Rattle.direct_history.specs.Change.{state_after}
+use Rattle.direct_history.specs.Line.{change_of, list_from}
+use Rattle.direct_history.specs.History.{effects, before_snap}
+use Rattle.direct_history.specs.Direct.{tree_so_far, ServesAfter, OfOneClient}
+use Rattle.direct_history.specs.Legal.{Asked, one_more, numbered_after, numbered, IsServed, line_answer, change_by, effects_of, snap_named}
 use Rattle.dentry_tree.specs.Dentries.{entries_at}
 use Rattle.dentry_tree.specs.declared.version.Version.{Version}
 use Rattle.snap_run.specs.Direct.{StandsFor, IsGiven, applied_of}

@@ -12,10 +12,10 @@ use Rattle.snap_ids.specs.declared.id.TheConstants.{NOSNAP, ROOT}
 use Rattle.plain_types.specs.declared.change.Change.TheVariants.{Mkdir, Mksnap}
 use Rattle.plain_types.specs.declared.change.Effect.{Effect}
 use Rattle.plain_tree.specs.State.{new_directory, State, Entry, Snapshot, add}
-use Rattle.plain_tree.specs.Change.{apply, make, is_refused, state_after}
-use Rattle.plain_tree.specs.History.{is_making, before_snap, makes}
-use Rattle.plain_tree.specs.Direct.{tree_so_far}
-use Rattle.plain_tree.proofs.Kept.{before_snap-append}
+use Rattle.direct_history.specs.Change.{apply, make, is_refused, state_after}
+use Rattle.direct_history.specs.History.{is_making, before_snap, makes}
+use Rattle.direct_history.specs.Direct.{tree_so_far}
+use Rattle.direct_history.proofs.Kept.{before_snap-append}
 use Rattle.snap_run.specs.Direct.{StandsFor, IsGiven, applied_of, shown}
 use Rattle.snap_run.proofs.Plain.{state_after-push, kinds_after, kinds_shown}
 use Rattle.snap_run.proofs.Views.{SameView}

@@ -8,8 +8,8 @@ use Rattle.std.specs.Io.KnownBytes.{IsAtEnd}
 use Rattle.plain_types.specs.declared.history.Event.{Event}
 use Rattle.plain_types.specs.declared.script.Line.{Line}
 use Rattle.plain_types.specs.declared.script.Script.{Script}
-use Rattle.plain_tree.specs.Line.{is_served}
-use Rattle.plain_tree.specs.Direct.{OfOneClient}
+use Rattle.direct_history.specs.Line.{is_served}
+use Rattle.direct_history.specs.Direct.{OfOneClient}
 use Rattle.script_text.specs.declared.error.ScriptError.{ScriptError}
 use Rattle.script_text.specs.declared.outcome.End.{End}
 use Rattle.script_text.specs.declared.outcome.End.TheVariants as ending

@@ -13,10 +13,11 @@ use Rattle.plain_types.specs.declared.change.Change.TheVariants as change
 use Rattle.plain_types.specs.declared.decision.Decision.TheVariants.{Put, Say}
 use Rattle.plain_types.specs.declared.script.Line.{Line}
 use Rattle.plain_types.specs.declared.script.Line.TheVariants as line
-use Rattle.plain_tree.specs.State.{State, Snapshot, kind_in, lookup, walk, listing, next_ino, next_snap}
-use Rattle.plain_tree.specs.Change.{has_snap}
-use Rattle.plain_tree.specs.Line.{at_end, new_entry, new_snap, mkdir_last, mkdir, list_from, decide, answer_of}
-use Rattle.plain_tree.specs.Legal.{line_answer, list_answer, snap_answer, live_answer, in_tree, snap_named}
+use Rattle.plain_tree.specs.State.{State, Snapshot, kind_in, lookup, listing, next_ino}
+use Rattle.direct_history.specs.Walk.{walk, next_snap}
+use Rattle.direct_history.specs.Change.{has_snap}
+use Rattle.direct_history.specs.Line.{at_end, new_entry, new_snap, mkdir_last, mkdir, list_from, decide, answer_of}
+use Rattle.direct_history.specs.Legal.{line_answer, list_answer, snap_answer, live_answer, in_tree, snap_named}
 
 -- the states show the same: entries, what each inode is, how many there are, and the snapshots
 pub record SameView (a b : State) : Type 0 where

@@ -5,9 +5,9 @@ use Rattle.snap_ids.specs.declared.id.SnapId.{SnapId}
 use Rattle.snap_ids.specs.declared.id.TheConstants.{NOSNAP, ROOT}
 use Rattle.plain_types.specs.declared.change.Effect.{Effect}
 use Rattle.plain_tree.specs.State.{Entry, State, Snapshot, new_directory}
-use Rattle.plain_tree.specs.Change.{state_after}
-use Rattle.plain_tree.specs.History.{is_making}
-use Rattle.plain_tree.specs.Direct.{tree_so_far}
+use Rattle.direct_history.specs.Change.{state_after}
+use Rattle.direct_history.specs.History.{is_making}
+use Rattle.direct_history.specs.Direct.{tree_so_far}
 
 -- the live state as far as it shows: the live entries, how many directories were made, and the snapshots
 abbrev pub shown : (SnapId → List Entry) → List Snapshot → ℕ → State

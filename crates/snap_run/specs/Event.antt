@@ -5,8 +5,8 @@ use Rattle.plain_types.specs.declared.decision.Decision.{Decision}
 use Rattle.plain_types.specs.declared.history.Event.{Event}
 use Rattle.plain_types.specs.declared.history.Replied.{Replied}
 use Rattle.plain_types.specs.declared.history.Step.TheVariants.{Op}
-use Rattle.plain_tree.specs.Line.{answer_of, change_of}
-use Rattle.plain_tree.specs.Legal.{effects_of}
+use Rattle.direct_history.specs.Line.{answer_of, change_of}
+use Rattle.direct_history.specs.Legal.{effects_of}
 
 -- the client goes on by one line, with these effects and this reply, and no message
 abbrev pub event_with : List Effect → Replied → Event

@@ -3,9 +3,10 @@ ghost use Rattle.std.specs.Prelude.{◌≡◌, ◌<◌, ◌+◌, [], true, map, 
 ghost use Rattle.snap_ids.specs.declared.id.TheConstants.{NOSNAP, ROOT};
 ghost use Rattle.plain_types.specs.declared.decision.Decision.TheVariants.{Say};
 ghost use Rattle.plain_types.specs.declared.answer.Answer.TheVariants.{Refused};
-ghost use Rattle.plain_tree.specs.Line as plain;
+ghost use Rattle.direct_history.specs.Line as plain;
+ghost use Rattle.direct_history.specs.Walk as walks;
 ghost use Rattle.plain_tree.specs.State as state;
-ghost use Rattle.plain_tree.specs.Legal.{snap_named};
+ghost use Rattle.direct_history.specs.Legal.{snap_named};
 ghost use Rattle.snap_run.specs.Direct.{StandsFor, applied_of, shown_tree};
 ghost use Rattle.plain_tree.specs.State.{is_named};
 ghost use Rattle.snap_run.specs.Server.{seen, entries_of, snaps_of, live_of, tree_of, count_of, has_room, Makes};
@@ -103,7 +104,7 @@ impl Direct {
     // The id that the next snapshot gets.
     fn next_snap(&self) -> SnapId
         requires { IsTrue (has_room self.now) }
-        ensures { result ≡ state.next_snap (live_of self.now) }
+        ensures { result ≡ walks.next_snap (live_of self.now) }
     {
         SnapId(FIRST_SNAP.0 + self.snaps.len() as u64)
     }
@@ -118,7 +119,7 @@ impl Direct {
 
     /// The inode at the end of a live path.
     pub fn walk(&self, names: &[Name]) -> Result<Ino, Refusal>
-        ensures { result ≡ state.walk (live_of self.now).entries ROOT names.now }
+        ensures { result ≡ walks.walk (live_of self.now).entries ROOT names.now }
     {
         match self.tree.walk_names(ROOT, names, NOSNAP) {
             Ok(ino) => Ok(ino),
@@ -167,11 +168,11 @@ impl Direct {
     pub fn new_snap(&mut self, dir: Ino, name: &Name) -> Result<Decision, NoMemory>
         requires { IsTrue (has_room self.old) }
         ensures decided { IfOk result (λ decision.
-            decision ≡ plain.new_snap (live_of self.old) (state.next_snap (live_of self.old)) name.now dir) }
+            decision ≡ plain.new_snap (live_of self.old) (walks.next_snap (live_of self.old)) name.now dir) }
 
         // A refusal needs no memory.
         ensures no_memory { OnErr result (is_some (plain.change_of
-            (plain.new_snap (live_of self.old) (state.next_snap (live_of self.old)) name.now dir)) ≡ true) }
+            (plain.new_snap (live_of self.old) (walks.next_snap (live_of self.old)) name.now dir)) ≡ true) }
         ensures made { IfOk result (λ decision. Makes self.old self.new (plain.change_of decision)) }
     {
         if !name.is_new_snap() {

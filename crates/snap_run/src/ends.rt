@@ -2,7 +2,7 @@
 ghost use Rattle.std.specs.Prelude.{◌≡◌, ◌≤◌, ◌<◌, not, length, position, IfNone, IfSome};
 ghost use Rattle.std.specs.List.{AllByRecursion};
 ghost use Rattle.snap_ids.specs.Path.{place_of};
-ghost use Rattle.plain_tree.specs.Line.{ends_in_snap, is_in_inherited, is_served};
+ghost use Rattle.direct_history.specs.Line.{ends_in_snap, is_in_inherited, is_served};
 ghost use Rattle.snap_run.specs.Ends.{is_taken, IsTaken, header_lines, is_all, first_number, first_unfollowed, first_unserved, is_unfinished};
 
 use plain_types::{Line, Planned, Script};

@@ -3,12 +3,12 @@ ghost use Rattle.std.specs.Prelude.{◌≡◌, ◌≤◌, ◌<◌, ◌^◌, ℕ,
 ghost use Rattle.std.specs.List.{AllByRecursion};
 ghost use Rattle.snap_ids.specs.declared.id.TheConstants.{ROOT};
 ghost use Rattle.snap_ids.specs.Path.{place_of};
-ghost use Rattle.plain_tree.specs.Line as plain;
-ghost use Rattle.plain_tree.specs.Line.{is_served};
+ghost use Rattle.direct_history.specs.Line as plain;
+ghost use Rattle.direct_history.specs.Line.{is_served};
 ghost use Rattle.snap_run.specs.Ends.{IsTaken};
-ghost use Rattle.plain_tree.specs.State as state;
-ghost use Rattle.plain_tree.specs.Direct.{ServesAfter};
-ghost use Rattle.plain_tree.specs.Legal.{snap_answer, list_answer, line_answer, change_by, numbered, IsServed};
+ghost use Rattle.direct_history.specs.Walk as walks;
+ghost use Rattle.direct_history.specs.Direct.{ServesAfter};
+ghost use Rattle.direct_history.specs.Legal.{snap_answer, list_answer, line_answer, change_by, numbered, IsServed};
 ghost use Rattle.snap_run.specs.Server.{live_of, tree_of, count_of, has_room, Makes};
 ghost use Rattle.snap_run.specs.Event.{event_of, event_with};
 
@@ -41,8 +41,8 @@ impl Direct {
     fn mkdir_snap(&mut self, dir: &[Name], name: &Name) -> Result<Decision, NoMemory>
         requires { IsTrue (has_room self.old) }
         ensures decided { IfOk result (λ decision.
-            decision ≡ plain.at_end (state.walk (live_of self.old).entries ROOT dir.now)
-            (plain.new_snap (live_of self.old) (state.next_snap (live_of self.old)) name.now)) }
+            decision ≡ plain.at_end (walks.walk (live_of self.old).entries ROOT dir.now)
+            (plain.new_snap (live_of self.old) (walks.next_snap (live_of self.old)) name.now)) }
         ensures made { IfOk result (λ decision. Makes self.old self.new (plain.change_of decision)) }
     {
         match self.walk(dir) {
@@ -55,7 +55,7 @@ impl Direct {
     fn mkdir(&mut self, path: &Path) -> Result<Decision, NoMemory>
         requires { IsTrue (has_room self.old) }
         ensures decided { IfOk result (λ decision.
-            decision ≡ plain.mkdir (live_of self.old) (state.next_snap (live_of self.old)) (place_of path.now)) }
+            decision ≡ plain.mkdir (live_of self.old) (walks.next_snap (live_of self.old)) (place_of path.now)) }
         ensures made { IfOk result (λ decision. Makes self.old self.new (plain.change_of decision)) }
     {
         match path.target() {

@@ -1,6 +1,6 @@
 use Rattle.std.proofs.Common.{◌≡◌, drop}
 use Rattle.std.specs.Prelude.{map}
-use Rattle.plain_tree.specs.Legal.{snap_named}
+use Rattle.direct_history.specs.Legal.{snap_named}
 use Rattle.snap_run.specs.Server.{seen}
 use Rattle.snap_run.proofs.direct.find_snap.Given as goal
 

@@ -1,10 +1,10 @@
 use Rattle.std.proofs.Common.{refl, sym, subst, ◌≤◌, length, List, [], arith}
 use Rattle.plain_types.specs.declared.history.Event.{Event}
-use Rattle.plain_tree.specs.Direct.{ServesAfter}
-use Rattle.plain_tree.specs.Legal.{numbered}
+use Rattle.direct_history.specs.Direct.{ServesAfter}
+use Rattle.direct_history.specs.Legal.{numbered}
 use Rattle.snap_run.proofs.Served.{first_step, next_step, room_after, all_served}
 use Rattle.snap_run.proofs.Verdicts.{taken_at, of_one, served, of_one_client}
-use Rattle.plain_tree.specs.History.{effects}
+use Rattle.direct_history.specs.History.{effects}
 use Rattle.snap_run.proofs.serve.history_of.Goals as goal
 
 pub loop-i-init : goal.loop-i-init

@@ -1,6 +1,6 @@
 use Rattle.std.proofs.Common.{[], ◌≤◌, take, length}
-use Rattle.plain_tree.specs.History.{effects}
-use Rattle.plain_tree.specs.Direct.{ServesAfter}
+use Rattle.direct_history.specs.History.{effects}
+use Rattle.direct_history.specs.Direct.{ServesAfter}
 use Rattle.snap_run.proofs.Served.{Stands, rising}
 use Rattle.snap_run.proofs.serve.history_of.Given as goal
 

@@ -1,5 +1,5 @@
 use Rattle.std.proofs.Common.{◌≡◌, drop}
-use Rattle.plain_tree.specs.State.{walk}
+use Rattle.direct_history.specs.Walk.{walk}
 use Rattle.dentry_tree.specs.Dentries.{entries_at}
 use Rattle.dentry_tree.proofs.tree.DirTree.walk_names.Given as goal
 

@@ -2,7 +2,7 @@ use Rattle.std.proofs.Common.{◌≡◌, ◌+◌, refl, sym, subst}
 use Rattle.std.specs.Prelude.{IfOk}
 use Rattle.snap_ids.specs.declared.id.TheConstants.{ROOT, NOSNAP}
 use Rattle.plain_types.specs.declared.decision.Decision.{Decision}
-use Rattle.plain_tree.specs.Line.{answer_of}
+use Rattle.direct_history.specs.Line.{answer_of}
 use Rattle.snap_run.specs.Server.{live_of, tree_of}
 use Rattle.snap_run.proofs.Plain.{kinds_shown}
 use Rattle.snap_run.proofs.Views.{list_same}

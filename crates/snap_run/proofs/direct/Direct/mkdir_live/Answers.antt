@@ -1,7 +1,7 @@
 use Rattle.std.proofs.Common.{◌≡◌, ap, sym, ◌∙◌, subst}
 use Rattle.std.specs.Prelude.{IfOk}
 use Rattle.plain_types.specs.declared.decision.Decision.{Decision}
-use Rattle.plain_tree.specs.Line.{at_end, new_entry}
+use Rattle.direct_history.specs.Line.{at_end, new_entry}
 use Rattle.snap_run.specs.Server.{live_of}
 use Rattle.snap_run.proofs.Decisions.{mkdir_last_is}
 use Rattle.snap_run.proofs.direct.Direct.mkdir_live.Goals as goal

@@ -4,8 +4,8 @@ use Rattle.std.specs.Prelude.{is_some, map}
 use Rattle.snap_ids.specs.Name.{is_new_snap}
 use Rattle.plain_types.specs.declared.change.Change.TheVariants.{Mksnap}
 use Rattle.plain_types.specs.declared.decision.Decision.TheVariants.{Put}
-use Rattle.plain_tree.specs.State.{next_snap}
-use Rattle.plain_tree.specs.Change.{has_snap}
+use Rattle.direct_history.specs.Walk.{next_snap}
+use Rattle.direct_history.specs.Change.{has_snap}
 use Rattle.snap_run.specs.Server.{seen, live_of, snaps_of}
 use Rattle.snap_run.proofs.Decisions.{on_err, is_some-snap_named, new_snap_taken, new_snap_made, new_snap_changes}
 use Rattle.snap_run.proofs.direct.Direct.new_snap.Goals as goal

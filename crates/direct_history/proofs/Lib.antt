@@ -1,0 +1,5 @@
+pub mod Direct
+mod Effects
+pub mod Kept
+pub mod Replies
+pub mod Numbered

@@ -1,5 +1,0 @@
-use Rattle.plain_tree.proofs.Replies.{from_snap}
-use Rattle.plain_tree.proofs.laws.replies_under_snap_are_of_its_tree.Goals as goal
-
-pub returns : goal.returns
-returns c = λ lines history. from_snap history lines
