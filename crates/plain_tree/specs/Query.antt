@@ -13,7 +13,7 @@ use Rattle.plain_types.specs.declared.answer.Refusal.{Refusal}
 use Rattle.plain_types.specs.declared.answer.Refusal.TheVariants.{NoSnap, NotDir, IsDir, NoEntry}
 use Rattle.plain_tree.specs.State.{State, kind_in, inode_in, listing}
 use Rattle.plain_tree.specs.Walk.{walk}
-use Rattle.plain_tree.specs.Request.{and_then, walk_live, in_directory}
+use Rattle.plain_tree.specs.Request.{and_then, tree_of, walk_live, in_directory}
 
 -- what a path leads to: an inode of the live tree, the `.snap` of a directory, or an inode in a snapshot
 pub data Found : Type 0 where
@@ -39,10 +39,10 @@ in_tree trees dir below (Some s) =
 -- What a path leads to: its directory and the snapshot's name are looked up in the live tree, and what stands behind
 -- the name in the tree of that snapshot.
 abbrev pub found_at : Shown → (SnapId → State) → State → Place → Result Found Refusal
-found_at shown trees live (Live path) = and_then (walk_live live path) (λ ino. Ok (InLive ino))
-found_at shown trees live (Snaps path) = and_then (walk_live live path) (λ dir. in_directory live dir (Ok (SnapsOf dir)))
+found_at shown trees live (Live path) = and_then (walk_live (tree_of live) path) (λ ino. Ok (InLive ino))
+found_at shown trees live (Snaps path) = and_then (walk_live (tree_of live) path) (λ dir. in_directory (kind_in live.inodes dir) (Ok (SnapsOf dir)))
 found_at shown trees live (InSnap path name below) =
-    and_then (walk_live live path) (λ dir. in_directory live dir (in_tree trees dir below (id_named (shown dir) name)))
+    and_then (walk_live (tree_of live) path) (λ dir. in_directory (kind_in live.inodes dir) (in_tree trees dir below (id_named (shown dir) name)))
 
 -- the answer to what was found; where nothing was, it is refused
 abbrev pub answered : Result Found Refusal → (Found → Answer) → Answer
@@ -98,6 +98,6 @@ cat_answer trees live (InTree s ino) = file_in (trees s) ino (FileBytes (bytes_i
 
 -- `realm` and `clones` know the live tree alone
 abbrev pub live_only : State → Place → Result Ino Refusal
-live_only live (Live path) = walk_live live path
+live_only live (Live path) = walk_live (tree_of live) path
 live_only live (Snaps dir) = Err NoEntry
 live_only live (InSnap dir name below) = Err NoEntry
