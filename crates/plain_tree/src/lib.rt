@@ -4,9 +4,11 @@
 #![tactic(auto)]
 
 mod examples;
+mod laws;
 
 pub use examples::{
     a_snapshot_has_what_was_written_before_it_was_heard_of, bytes_are_as_written,
     lines_are_refused_in_order, lines_make_changes, names_are_listed_by_their_bytes,
     refused_changes_leave_the_tree,
 };
+pub use laws::changes_that_are_asked_succeed;
