@@ -1,5 +1,5 @@
 -- Which entry may follow others.
-use Rattle.std.specs.Prelude.{ℕ, Bool, true, false, not, ◌&&◌, ◌==◌, nat_lt, List, Option, None, Some}
+use Rattle.std.specs.Prelude.{[], ◌∷◌, ◌++◌, ℕ, Bool, true, false, not, ◌&&◌, ◌==◌, nat_lt, List, Option, None, Some}
 use Rattle.std.specs.List.{list_any}
 use Rattle.snap_ids.specs.declared.id.Ino.{Ino}
 use Rattle.snap_ids.specs.declared.id.SnapId.{SnapId}
@@ -42,3 +42,12 @@ fits entries what = true
 -- an entry may follow these entries: its change succeeds, and its numbers fit
 abbrev pub is_legal : List Entry → Entry → Bool
 is_legal entries entry = is_made_by (state_after entries) entry.client (change_in entry.what) && fits entries entry.what
+
+-- each of these entries may follow those before it
+abbrev pub legal_after : List Entry → List Entry → Bool
+legal_after done [] = true
+legal_after done (entry ∷ entries) = is_legal done entry && legal_after (done ++ entry ∷ []) entries
+
+-- the entries are those of a journal
+abbrev pub is_journal : List Entry → Bool
+is_journal entries = legal_after [] entries
