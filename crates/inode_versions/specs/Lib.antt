@@ -1,0 +1,4 @@
+pub mod Histories
+pub mod Parts
+pub mod Table
+pub mod Fields
