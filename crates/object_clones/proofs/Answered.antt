@@ -11,7 +11,7 @@ use Rattle.object_clones.specs.Objects.{bytes_shown, list_of}
 use Rattle.object_clones.specs.Files.{byte_at, bytes_read}
 use Rattle.object_clones.specs.Store.{Shown, object_at}
 use Rattle.object_clones.specs.Stands.{StandsFor}
-use Rattle.object_clones.proofs.Many.{so_many_same}
+use Rattle.object_log.proofs.Many.{so_many_same}
 
 pub head_read : (shown : Shown) (size : ℕ) (taken : List ToStore) (f : Ino) (n : ℕ) → StandsFor shown size taken
     → bytes_read shown.size (object_at shown f.0) n None ≡ bytes_head taken f n

@@ -8,8 +8,8 @@ use Rattle.object_log.specs.Bytes.{laid, cut_off}
 use Rattle.object_log.specs.Objects.{Touch, length_of, end_of}
 use Rattle.object_clones.specs.Bytes.{written, or_empty}
 use Rattle.object_clones.specs.Objects.{head_written, head_cut, head_deleted}
-use Rattle.object_clones.proofs.Laid.{laid_before, laid_in, laid_past, cut_in, cut_past}
-use Rattle.object_clones.proofs.Many.{length-so_many, get_or-so_many, get_or-so_many_past}
+use Rattle.object_log.proofs.Laid.{laid_before, laid_in, laid_past, cut_in, cut_past}
+use Rattle.object_log.proofs.Many.{length-so_many, get_or-so_many, get_or-so_many_past}
 use Rattle.object_clones.proofs.Clones.{if_false}
 use Rattle.object_clones.proofs.Decided.{lt_is, lt_not, le_is, le_not}
 use Rattle.object_clones.proofs.Follows.{head_then, touch_of}

@@ -1,6 +1,4 @@
-pub mod Laid
 pub mod Rises
-pub mod Many
 pub mod Steps
 pub mod Clones
 pub mod Changes

@@ -2,7 +2,7 @@
 use Rattle.std.proofs.Common.{◌≡◌, ℕ, ◌+◌, ◌<◌, ◌≤◌, List, [], ◌∷◌, ◌++◌, length, ◌∙◌, refl, ap, subst, arith}
 use Rattle.object_clones.specs.Extents.{Rise, byte_over}
 use Rattle.object_clones.specs.declared.extents.Extent.{Extent}
-use Rattle.object_clones.proofs.Laid.{laid_past}
+use Rattle.object_log.proofs.Laid.{laid_past}
 
 pub rise_upto : (es : List Extent) (from n m : ℕ) → Rise from n es → n ≤ m → Rise from m es
 rise_upto [] from n m r h = omega arith

@@ -6,8 +6,8 @@ use Rattle.std.proofs.lemmas.Bool.{cases_lt}
 use Rattle.object_log.specs.Bytes.{laid, cut_off}
 use Rattle.object_clones.specs.Extents.{Rise, byte_over, byte_in, bytes_of}
 use Rattle.object_clones.specs.declared.extents.Extent.{Extent}
-use Rattle.object_clones.proofs.Laid.{laid_before, laid_in, laid_past, laid_rest, cut_in, cut_past}
-use Rattle.object_clones.proofs.Many.{get_or-so_many, get_or-so_many_past}
+use Rattle.object_log.proofs.Laid.{laid_before, laid_in, laid_past, laid_rest, cut_in, cut_past}
+use Rattle.object_log.proofs.Many.{get_or-so_many, get_or-so_many_past}
 use Rattle.object_clones.proofs.Rises.{byte_past}
 
 pub byte_more : (es : List Extent) (i place b : ℕ) (e : Extent) → i < length es → e ≡ get_or es i e

@@ -1,7 +1,7 @@
 use Rattle.std.proofs.Common.{◌≡◌, ℕ, ◌+◌, ◌-◌, ◌≤◌, ◌<◌, min, length, take, drop, arith, ◌∙◌, sym, ap, length-take}
 use Rattle.object_log.specs.Bytes.{laid, cut_off}
 use Rattle.object_clones.specs.Extents.{Rise, byte_in}
-use Rattle.object_clones.proofs.Laid.{laid_cut, cut_laid}
+use Rattle.object_log.proofs.Laid.{laid_cut, cut_laid}
 use Rattle.object_clones.proofs.Rises.{rise_upto, rise_from}
 use Rattle.object_clones.proofs.Steps.{byte_more, rise_more}
 use Rattle.object_clones.proofs.extents.before.Goals as goal

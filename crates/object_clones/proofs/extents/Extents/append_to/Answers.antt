@@ -3,7 +3,7 @@ use Rattle.std.proofs.lemmas.Bool.{cases_lt}
 use Rattle.std.proofs.lemmas.List.{ext_get_or, get_or_append_left, get_or-append_right, take_all}
 use Rattle.object_log.specs.Bytes.{so_many}
 use Rattle.object_clones.specs.Extents.{byte_in}
-use Rattle.object_clones.proofs.Many.{length-so_many, get_or-so_many}
+use Rattle.object_log.proofs.Many.{length-so_many, get_or-so_many}
 use Rattle.object_clones.proofs.Steps.{byte_shown}
 use Rattle.object_clones.proofs.extents.Extents.append_to.Goals as goal
 

@@ -1,7 +1,7 @@
 use Rattle.std.proofs.Common.{ℕ, length, take, arith, ◌∙◌, sym, ap}
 use Rattle.object_clones.specs.Extents.{byte_in}
-use Rattle.object_clones.proofs.Laid.{cut_in}
-use Rattle.object_clones.proofs.Many.{so_many_same, take-so_many, length-so_many}
+use Rattle.object_log.proofs.Laid.{cut_in}
+use Rattle.object_log.proofs.Many.{so_many_same, take-so_many, length-so_many}
 use Rattle.object_clones.proofs.extents.Extents.cut.Goals as goal
 
 pub returns : goal.returns

@@ -1,6 +1,6 @@
 use Rattle.std.proofs.Common.{sym, ◌∙◌, ap, length}
 use Rattle.object_clones.specs.Extents.{byte_in}
-use Rattle.object_clones.proofs.Many.{length-so_many}
+use Rattle.object_log.proofs.Many.{length-so_many}
 use Rattle.object_clones.proofs.extents.Extents.len.Goals as goal
 
 pub returns : goal.returns

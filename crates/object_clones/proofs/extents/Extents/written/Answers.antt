@@ -2,7 +2,7 @@ use Rattle.std.proofs.Common.{◌≡◌, ℕ, ◌+◌, max, List, length, get_or
 use Rattle.object_log.specs.Bytes.{so_many, laid, cut_off}
 use Rattle.object_clones.specs.Extents.{byte_in, byte_over}
 use Rattle.object_clones.specs.declared.extents.Extent.{Extent}
-use Rattle.object_clones.proofs.Many.{so_many_same, length-so_many}
+use Rattle.object_log.proofs.Many.{so_many_same, length-so_many}
 use Rattle.object_clones.proofs.Steps.{byte_shown, written_byte}
 use Rattle.object_clones.proofs.extents.Extents.written.Goals as goal
 

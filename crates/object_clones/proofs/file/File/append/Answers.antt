@@ -3,7 +3,7 @@ use Rattle.std.proofs.lemmas.List.{take_all}
 use Rattle.object_clones.specs.Bytes.{or_empty}
 use Rattle.object_clones.specs.Objects.{bytes_shown}
 use Rattle.object_clones.specs.Files.{object_in}
-use Rattle.object_clones.proofs.Many.{so_many_zeros}
+use Rattle.object_log.proofs.Many.{so_many_zeros}
 use Rattle.object_clones.proofs.file.File.append.Goals as goal
 
 pub returns-in_ok-resize-in-None : goal.returns-in_ok-resize-in-None

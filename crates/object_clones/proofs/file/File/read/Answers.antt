@@ -4,7 +4,7 @@ use Rattle.object_log.specs.Bytes.{so_many}
 use Rattle.object_clones.specs.Bytes.{or_empty}
 use Rattle.object_clones.specs.Objects.{bytes_shown}
 use Rattle.object_clones.specs.Files.{object_in, byte_at}
-use Rattle.object_clones.proofs.Many.{so_many-append, length-so_many}
+use Rattle.object_log.proofs.Many.{so_many-append, length-so_many}
 use Rattle.object_clones.proofs.Places.{starts_within}
 use Rattle.object_clones.proofs.file.File.read.Goals as goal
 

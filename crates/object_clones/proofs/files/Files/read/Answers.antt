@@ -2,7 +2,7 @@ use Rattle.std.proofs.Common.{ℕ, ◌/◌, ◌%◌, Option, [], get_or, ◌∙�
 use Rattle.std.proofs.lemmas.List.{get_or_past}
 use Rattle.object_clones.specs.declared.file.File.{File}
 use Rattle.std.proofs.lemmas.Result.{IfOk-weaker}
-use Rattle.object_clones.proofs.Many.{so_many_zeros}
+use Rattle.object_log.proofs.Many.{so_many_zeros}
 use Rattle.object_clones.specs.Bytes.{or_empty}
 use Rattle.object_clones.specs.Objects.{bytes_shown}
 use Rattle.object_clones.specs.Files.{byte_at}

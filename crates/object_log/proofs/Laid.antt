@@ -1,6 +1,6 @@
 -- Bytes laid over others, place by place.
-use Rattle.std.proofs.Common.{◌≡◌, ℕ, ◌+◌, ◌-◌, ◌<◌, ◌≤◌, min, max, List, length, get_or, take, drop, sym, ◌∙◌, ap, arith, length-take, length-drop, ⊎_elim}
-use Rattle.std.proofs.lemmas.List.{get_or-take, get_or-drop, get_or_past, get_or_default}
+use Rattle.std.proofs.Common.{◌≡◌, ℕ, ◌+◌, ◌-◌, ◌<◌, ◌≤◌, min, max, List, ◌++◌, length, get_or, take, drop, sym, ◌∙◌, ap, arith, length-take, length-drop, ⊎_elim}
+use Rattle.std.proofs.lemmas.List.{get_or-take, get_or-drop, get_or_past, get_or_default, get_or_append_left, get_or-append_right}
 use Rattle.std.proofs.lemmas.Bool.{cases_lt}
 use Rattle.object_log.specs.Bytes.{laid, cut_off}
 
@@ -62,4 +62,24 @@ laid_rest place offset from skipped bytes b e s h = ⊎_elim
     (λ (r : offset + length bytes ≤ place). laid_past place (max offset from) (drop skipped bytes) b (omega (arith, length-drop skipped bytes))
     ∙ sym (laid_past place offset bytes b r))
     (cases_lt place (offset + length bytes)))
+    (cases_lt place offset)
+
+-- a list with a part put in place of another of that length
+pub part_laid : (xs ys bytes : List ℕ) (offset count k place : ℕ) → ys ≡ take count bytes → k ≡ count → count ≡ min (length bytes) (length xs - offset)
+    → offset < length xs → place < length xs → get_or (take offset xs ++ (ys ++ drop k (drop offset xs))) place 0 ≡ laid place offset bytes (get_or xs place 0)
+part_laid xs ys bytes offset count k place is same n h inside =
+    let long : length ys ≡ count = omega (arith, ap length is, length-take count bytes, n) in
+    let front : length (take offset xs) ≡ offset = omega (arith, length-take offset xs, h) in
+    ⊎_elim
+    (λ (p : place < offset). get_or_append_left (take offset xs) (ys ++ drop k (drop offset xs)) 0 place (omega arith)
+    ∙ get_or-take offset xs place 0 p ∙ sym (laid_before place offset bytes (get_or xs place 0) p))
+    (λ (p : offset ≤ place). get_or-append_right (take offset xs) (ys ++ drop k (drop offset xs)) offset place 0 front p ∙ ⊎_elim
+    (λ (q : place < offset + count). get_or_append_left ys (drop k (drop offset xs)) 0 (place - offset) (omega arith)
+    ∙ ap (λ zs. get_or zs (place - offset) 0) is ∙ get_or-take count bytes (place - offset) 0 (omega arith)
+    ∙ sym (laid_in place offset bytes (get_or xs place 0) 0 p (omega arith)))
+    (λ (q : offset + count ≤ place). get_or-append_right ys (drop k (drop offset xs)) count (place - offset) 0 long (omega arith)
+    ∙ get_or-drop k (drop offset xs) (place - offset - count) 0 ∙ get_or-drop offset xs (k + (place - offset - count)) 0
+    ∙ ap (λ i. get_or xs i 0) (let e : offset + (k + (place - offset - count)) ≡ place = omega arith in e)
+    ∙ sym (laid_past place offset bytes (get_or xs place 0) (omega arith)))
+    (cases_lt place (offset + count)))
     (cases_lt place offset)

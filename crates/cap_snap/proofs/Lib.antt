@@ -1,0 +1,3 @@
+pub mod Weave
+pub mod Rises
+pub mod Stands

@@ -1,0 +1,10 @@
+use Rattle.std.proofs.lemmas.Result.{on_ok_weaker}
+use Rattle.held_files.specs.declared.piece.Piece.TheVariants.{Cut}
+use Rattle.cap_snap.proofs.Weave.{piece_added}
+use Rattle.cap_snap.proofs.held.Held.truncate.Goals as goal
+
+pub returns-clause-added : goal.returns-clause-added
+returns-clause-added c = on_ok_weaker c.truncate.result
+    (piece_added c.self.inside.mode c.self.inside.settled c.self.inside.recalled c.self.inside.buf c.truncate.new.self c.self.inside.marks.items c.self.inside.marked c.args.self.now
+    (Cut c.args.length c.args.context) c.self.view_is c.self.invariant.0 c.self.invariant.1)
+    c.truncate.ensures.added

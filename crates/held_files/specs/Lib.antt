@@ -1,0 +1,4 @@
+pub mod Buffer
+pub mod Files
+pub mod Due
+pub mod Example
