@@ -33,10 +33,6 @@ fn requests_are_granted_or_recalled(rt: HostRuntime) -> Result<(), Fail> {
     assert_eq!(rt; caps.held().as_slice(), held.as_slice());
     assert_eq!(rt; caps.holder(ONE), Some((2, SnapId(5))));
     assert_eq!(rt; caps.holder(TWO), None);
-    assert_eq!(rt; caps.mode_of(2, ONE), Some(Mode::Write));
-    assert_eq!(rt; caps.mode_of(3, TWO), Some(Mode::Read));
-    assert_eq!(rt; caps.mode_of(3, ONE), None);
-    assert_eq!(rt; caps.holders(TWO), &held[1..]);
 
     let writer = Clients::from_vec(vec![in alloc; 2]?);
     assert_eq!(rt;
@@ -105,6 +101,19 @@ fn claims_are_held_again(rt: HostRuntime) -> Result<(), Fail> {
     assert_eq!(rt;
         caps.held().as_slice(),
         [(2, claim(ONE, Mode::Read, 7))].as_slice()
+    );
+    Ok(())
+}
+
+#[test]
+fn holders_are_found(rt: HostRuntime) -> Result<(), Fail> {
+    let mut caps = Caps::new(rt.alloc());
+    caps.ask(3, TWO, Mode::Read, SnapId(4))?;
+    assert_eq!(rt; caps.mode_of(3, TWO), Some(Mode::Read));
+    assert_eq!(rt; caps.mode_of(3, ONE), None);
+    assert_eq!(rt;
+        caps.holders(TWO),
+        [(3, claim(TWO, Mode::Read, 4))].as_slice()
     );
     Ok(())
 }
