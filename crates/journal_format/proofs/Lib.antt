@@ -1,0 +1,4 @@
+pub mod Formats
+pub mod Whats
+pub mod Listed
+pub mod Journals
