@@ -1,6 +1,9 @@
 pub mod Lists
 pub mod Order
+pub mod Held
+pub mod Cuts
 pub mod Entries
-pub mod Put
+pub mod Splits
 pub mod Directory
-pub mod Walks
+pub mod Steps
+pub mod Trims

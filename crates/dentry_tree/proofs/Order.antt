@@ -13,8 +13,8 @@ use Rattle.std.proofs.lemmas.Map.Text.{is_eq-slice_cmp}
 use Rattle.std.proofs.lemmas.List.Elements.{All-from_recursion}
 use Rattle.snap_ids.specs.declared.id.Ino.{Ino}
 use Rattle.plain_tree.specs.State.{Entry, is_at, precedes}
-use Rattle.dentry_tree.specs.declared.version.Version.{Version}
-use Rattle.dentry_tree.specs.Dentries.{entry_of, IsBefore, IsInOrder}
+use Rattle.snap_ids.specs.declared.id.TheConstants.{ROOT}
+use Rattle.dentry_tree.specs.Dentries.{Dentry, entry_of, IsBefore, IsInOrder}
 use Rattle.dentry_tree.specs.Places.{stands_before}
 use Rattle.dentry_tree.proofs.Lists.{all_weaker}
 
@@ -53,12 +53,12 @@ precedes_trans : (a b c : Entry) → precedes a b ≡ true → precedes b c ≡ 
 precedes_trans a b c h k = precedes-place_cmp a c ∙ ap is_lt (place_cmp_total.trans a b c (place_less a b h) (place_less b c k))
 
 -- what stands before a version that stands before a name does so too
-pub stands_before_before : (dir : Ino) (name : List ℕ) (v w : Version) → IsBefore v w → stands_before dir name w ≡ true → stands_before dir name v ≡ true
+pub stands_before_before : (dir : Ino) (name : List ℕ) (v w : Dentry) → IsBefore v w → stands_before dir name w ≡ true → stands_before dir name v ≡ true
 stands_before_before dir name v w before passes =
-    let entry : Entry = record { dir = dir; name = name; ino = dir } in precedes_trans (entry_of v) (entry_of w) entry before passes
+    let entry : Entry = record { dir = dir; name = name; ino = ROOT } in precedes_trans (entry_of v ROOT) (entry_of w ROOT) entry before passes
 
 -- in order, versions that pass a test come first if what stands before such a version passes it too
-pub partitioned : (p : Version → Bool) → ((v w : Version) → IsBefore v w → p w ≡ true → p v ≡ true) → (versions : List Version) → IsInOrder versions → IsPartitionedBy p versions
+pub partitioned : (p : Dentry → Bool) → ((v w : Dentry) → IsBefore v w → p w ≡ true → p v ≡ true) → (versions : List Dentry) → IsInOrder versions → IsPartitionedBy p versions
 partitioned p steady [] order i j d le lt passes = absurd (omega arith)
 partitioned p steady (v ∷ vs) order zero zero d le lt passes = passes
 partitioned p steady (v ∷ vs) order zero (suc j) d le lt passes =
@@ -67,7 +67,7 @@ partitioned p steady (v ∷ vs) order (suc i) zero d le lt passes = absurd (omeg
 partitioned p steady (v ∷ vs) order (suc i) (suc j) d le lt passes = partitioned p steady vs order.1 i j d (omega arith) (omega arith) passes
 
 -- a part from a place on is in order too
-pub in_order_drop : (versions : List Version) (i : ℕ) → IsInOrder versions → IsInOrder (drop i versions)
+pub in_order_drop : (versions : List Dentry) (i : ℕ) → IsInOrder versions → IsInOrder (drop i versions)
 in_order_drop versions zero order = order
 in_order_drop [] (suc i) order = tt
 in_order_drop (v ∷ vs) (suc i) order = in_order_drop vs i order.1
@@ -109,5 +109,5 @@ precedes_other a b h k =
     precedes-place_cmp a b ∙ ap is_lt (place_cmp_total.antisymm a b ∙ ap ordering_reverse greater)
 
 -- what stands in order behind a version that isn't before an entry is behind the entry
-pub all_behind : (e : Entry) (v : Version) (vs : List Version) → precedes (entry_of v) e ≡ false → AllByRecursion (IsBefore v) vs → AllByRecursion (λ w. precedes e (entry_of w) ≡ true) vs
-all_behind e v vs not_before later = all_weaker (IsBefore v) (λ w. precedes e (entry_of w) ≡ true) (λ w before. precedes_behind e (entry_of v) (entry_of w) not_before before) vs later
+pub all_behind : (e : Entry) (v : Dentry) (vs : List Dentry) → precedes (entry_of v ROOT) e ≡ false → AllByRecursion (IsBefore v) vs → AllByRecursion (λ w. precedes e (entry_of w ROOT) ≡ true) vs
+all_behind e v vs not_before later = all_weaker (IsBefore v) (λ w. precedes e (entry_of w ROOT) ≡ true) (λ w before. precedes_behind e (entry_of v ROOT) (entry_of w ROOT) not_before before) vs later

@@ -14,6 +14,15 @@ pub enum TreeError {
     /// Nothing has the name.
     #[error("nothing has the name")]
     NoEntry,
+    /// It is a file, where a directory is asked for.
+    #[error("not a directory")]
+    NotDir,
+    /// It is a directory, where a file is asked for.
+    #[error("a directory")]
+    IsDir,
+    /// The directory has entries. No call here answers it; it is for plans that remove a directory.
+    #[error("the directory has entries")]
+    NotEmpty,
     /// There was no memory for it.
     #[error("out of memory")]
     NoMemory,

@@ -1,7 +1,9 @@
-//! The entries of a tree of directories, with the ids of snapshots for which each is valid.
+//! The entries of a tree, with the ids of snapshots for which each is valid.
 #![tactic(auto)]
 
+mod dentry;
 mod error;
+mod kinds;
 mod places;
 #[cfg(test)]
 mod tests;
@@ -10,4 +12,3 @@ mod version;
 
 pub use error::TreeError;
 pub use tree::DirTree;
-pub use version::Version;

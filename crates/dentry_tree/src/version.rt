@@ -1,12 +1,9 @@
-// An entry of a directory, and when it is valid.
-use snap_ids::{Ino, Interval, Kind, Name};
+// An inode that a name had, and when.
+use snap_ids::{Ino, Interval};
 
-/// An entry, and the ids for which it is valid.
-#[derive(Debug, Drop)]
+/// An inode that a name had, and the ids for which it had it.
+#[derive(Clone, Copy, Debug)]
 pub struct Version {
-    pub dir: Ino,
-    pub name: Name,
     pub ino: Ino,
-    pub kind: Kind,
     pub valid: Interval,
 }

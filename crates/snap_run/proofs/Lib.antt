@@ -1,3 +1,4 @@
+pub mod Walks
 mod Allowed
 mod Decisions
 mod Finds

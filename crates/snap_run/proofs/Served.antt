@@ -21,12 +21,11 @@ use Rattle.direct_history.specs.Line.{change_of, list_from}
 use Rattle.direct_history.specs.History.{effects, before_snap}
 use Rattle.direct_history.specs.Direct.{tree_so_far, ServesAfter, OfOneClient}
 use Rattle.direct_history.specs.Legal.{Asked, one_more, numbered_after, numbered, IsServed, line_answer, change_by, effects_of, snap_named}
-use Rattle.dentry_tree.specs.Dentries.{entries_at}
-use Rattle.dentry_tree.specs.declared.version.Version.{Version}
+use Rattle.dentry_tree.specs.Dentries.{newest}
 use Rattle.snap_run.specs.Direct.{StandsFor, IsGiven, applied_of}
 use Rattle.snap_run.specs.declared.direct.Direct.{Direct}
 use Rattle.snap_run.specs.declared.direct.TheConstants.{LIMIT}
-use Rattle.snap_run.specs.Server.{seen, entries_of, snaps_of, live_of, tree_of, count_of, has_room, Makes}
+use Rattle.snap_run.specs.Server.{IsSettled, seen, entries_of, snaps_of, live_of, tree_of, count_of, has_room, Makes}
 use Rattle.snap_run.proofs.Allowed.{allowed}
 use Rattle.snap_run.proofs.Plain.{kinds_after}
 use Rattle.snap_run.proofs.Stands.{shows, stands_first, stands_mkdir, stands_mksnap}
@@ -165,16 +164,13 @@ numbered_rising before n (line ∷ lines) is of_one =
     next : one_more line.0 before 1 ≡ n + 1
     next = rw of_one.0 (ap (λ (m : ℕ). m + 1) is)
 
-no_entries : (versions : List Version) (s : SnapId) → versions ≡ [] → entries_at s versions ≡ []
-unfolding entries_at
-no_entries versions s none = rw none refl
-
 -- the first server stands for no effect, and serves no line
-pub first_step : (server : Direct) (events : List Event) → server.tree ≡ [] → server.snaps.items ≡ [] → server.made ≡ 0 → events ≡ [] → record { stands : Stands server (effects events); serves : ServesAfter [] [] events; few : length (effects events) ≤ 0 }
-first_step server events tree snaps made none = record {
+pub first_step : (server : Direct) (events : List Event) → ((s : SnapId) → entries_of server s ≡ []) → newest server.tree ≡ 0 → server.snaps.items ≡ [] → server.made ≡ 0 → events ≡ [] → record { stands : Stands server (effects events); settled : IsSettled server; serves : ServesAfter [] [] events; few : length (effects events) ≤ 0 }
+first_step server events entries newest snaps made none = record {
   stands = subst (λ (l : List Event). Stands server (effects l)) (sym none)
       (stands_same (entries_of server) (entries_of server) [] (snaps_of server) 0 server.made [] (λ s. refl) (ap (map seen) snaps) made
-      (stands_first (entries_of server) (λ s. no_entries server.tree s tree)));
+      (stands_first (entries_of server) entries));
+  settled = omega (arith, newest);
   serves = subst (ServesAfter [] []) (sym none) tt;
   few = subst (λ (l : List Event). length (effects l) ≤ 0) (sym none) (omega arith);
 }
@@ -207,9 +203,18 @@ few_from_room server room =
     let below : length server.snaps.items < LIMIT = ltb-true _ _ (and_right (nat_lt server.made LIMIT) (nat_lt (length server.snaps.items) LIMIT) room) in
     omega (arith, below, length-map server.snaps.items seen)
 
+-- a change that was made leaves the server settled
+settled_after : (old new : Direct) (o : Option Change) → Makes old new o → IsSettled old → IsSettled new
+settled_after old new (Some (Mkdir dir name ino)) puts was = omega (arith, puts.settled, ap length puts.snaps)
+settled_after old new (Some (Mksnap id dir name)) puts was =
+    let snap : Snapshot = record { id = id; root = dir; name = name; live = true } in
+    omega (arith, puts.settled, ap length puts.snaps, length-append (snaps_of old) (snap ∷ []), was)
+settled_after old new None stays was = omega (arith, stays.settled, ap length stays.snaps, was)
+settled_after old new (Some change) stays was = omega (arith, stays.settled, ap length stays.snaps, was)
+
 -- one more line
-pub next_step : (old new : Direct) (lines : List (ℕ × Line)) (events after : List Event) (i number : ℕ) (line : ℕ × Line) (event : Event) → i < length lines → line ≡ get_or lines i line → number ≡ i + 1 → line.0 ≡ 1 → has_room old ≡ true → Stands old (effects events) → ServesAfter [] (rising 0 (take i lines)) events → IsServed (live_of old) (tree_of old) (count_of old) (record { client = line.0; number = number; line = line.1 }) event → Makes old new (change_by (live_of old) line.1) → after ≡ events ++ event ∷ [] → length (effects events) ≤ i → record { stands : Stands new (effects after); serves : ServesAfter [] (rising 0 (take (i + 1) lines)) after; few : length (effects after) ≤ i + 1 }
-next_step old new lines events after i number line event within is same of_one room stands serves served makes pushed count_so_far =
+pub next_step : (old new : Direct) (lines : List (ℕ × Line)) (events after : List Event) (i number : ℕ) (line : ℕ × Line) (event : Event) → i < length lines → line ≡ get_or lines i line → number ≡ i + 1 → line.0 ≡ 1 → has_room old ≡ true → Stands old (effects events) → IsSettled old → ServesAfter [] (rising 0 (take i lines)) events → IsServed (live_of old) (tree_of old) (count_of old) (record { client = line.0; number = number; line = line.1 }) event → Makes old new (change_by (live_of old) line.1) → after ≡ events ++ event ∷ [] → length (effects events) ≤ i → record { stands : Stands new (effects after); settled : IsSettled new; serves : ServesAfter [] (rising 0 (take (i + 1) lines)) after; few : length (effects after) ≤ i + 1 }
+next_step old new lines events after i number line event within is same of_one room stands settled serves served makes pushed count_so_far =
     let few = few_from_room old room in
     let asked : Asked = record { client = line.0; number = number; line = line.1 } in
     let served_now = served_is old (effects events) (omega (arith, few)) stands asked event served in
@@ -219,6 +224,7 @@ next_step old new lines events after i number line event within is same of_one r
     let all : rising 0 (take (i + 1) lines) ≡ rising 0 (take i lines) ++ asked ∷ [] = ap (rising 0) more ∙ rising-append 0 (take i lines) line ∙ ap (λ (a : Asked). rising 0 (take i lines) ++ a ∷ []) (sym asked_is) in
     record {
       stands = subst (Stands new) (sym (ap effects pushed ∙ effects_push events event)) (stands_after old new (effects events) few stands asked event served_now makes);
+      settled = settled_after old new (change_by (live_of old) line.1) makes settled;
       serves = rw (pushed, all) (serves_push [] (rising 0 (take i lines)) events asked event serves served_now);
       few =
           let one : length event.effects ≤ 1 = rw (served_now.effects) (at_most_one asked.client (length (effects events)) (change_by (state_after (effects events)) asked.line)) in

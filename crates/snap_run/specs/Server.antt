@@ -5,7 +5,7 @@ use Rattle.snap_ids.specs.declared.id.TheConstants.{NOSNAP}
 use Rattle.plain_types.specs.declared.change.Change.{Change}
 use Rattle.plain_types.specs.declared.change.Change.TheVariants.{Mkdir, Mksnap}
 use Rattle.plain_tree.specs.State.{Entry, State, Snapshot, add}
-use Rattle.dentry_tree.specs.Dentries.{entries_at}
+use Rattle.dentry_tree.specs.Dentries.{entries_at, newest}
 use Rattle.snap_run.specs.declared.direct.Snapshot.{Snapshot as Kept}
 use Rattle.snap_run.specs.declared.direct.Direct.{Direct}
 use Rattle.snap_run.specs.declared.direct.TheConstants.{LIMIT}
@@ -38,24 +38,31 @@ count_of server = server.made + length (snaps_of server)
 abbrev pub has_room : Direct → Bool
 has_room server = nat_lt server.made LIMIT && nat_lt (length server.snaps.items) LIMIT
 
+-- no entry began or ended later than the last snapshot was made
+abbrev pub IsSettled : Direct → Type 0
+IsSettled server = newest server.tree ≤ applied_of (snaps_of server)
+
 -- a directory was put: what stood at an earlier id stays, and from the next id on there is one more entry
 pub record PutsEntry (old new : Direct) (entry : Entry) : Type 0 where
   pub earlier : (s : SnapId) → s.0 ≤ applied_of (snaps_of old) → entries_of new s ≡ entries_of old s
   pub later : (s : SnapId) → applied_of (snaps_of old) < s.0 → s.0 ≤ NOSNAP.0 → entries_of new s ≡ add entry (entries_of old s)
   pub snaps : snaps_of new ≡ snaps_of old
   pub made : new.made ≡ old.made + 1
+  pub settled : newest new.tree ≤ applied_of (snaps_of old)
 
 -- a snapshot was put behind the others, and nothing else changed
 pub record PutsSnap (old new : Direct) (snap : Snapshot) : Type 0 where
   pub entries : (s : SnapId) → entries_of new s ≡ entries_of old s
   pub snaps : snaps_of new ≡ snaps_of old ++ snap ∷ []
   pub made : new.made ≡ old.made
+  pub settled : newest new.tree ≡ newest old.tree
 
 -- nothing changed that shows
 pub record Stays (old new : Direct) : Type 0 where
   pub entries : (s : SnapId) → entries_of new s ≡ entries_of old s
   pub snaps : snaps_of new ≡ snaps_of old
   pub made : new.made ≡ old.made
+  pub settled : newest new.tree ≡ newest old.tree
 
 -- the change was made, and nothing else; changes that this server never makes leave it
 abbrev pub Makes : Direct → Direct → Option Change → Type 0

@@ -1,5 +1,6 @@
 // A server that answers each line of one client at once.
 ghost use Rattle.std.specs.Prelude.{◌≡◌, ◌<◌, ◌+◌, [], true, map, vec_len, is_some, IsTrue, IfOk, OnErr, option_map};
+ghost use Rattle.snap_ids.specs.declared.id.SnapId.{SnapId};
 ghost use Rattle.snap_ids.specs.declared.id.TheConstants.{NOSNAP, ROOT};
 ghost use Rattle.plain_types.specs.declared.decision.Decision.TheVariants.{Say};
 ghost use Rattle.plain_types.specs.declared.answer.Answer.TheVariants.{Refused};
@@ -9,11 +10,12 @@ ghost use Rattle.plain_tree.specs.State as state;
 ghost use Rattle.direct_history.specs.Legal.{snap_named};
 ghost use Rattle.snap_run.specs.Direct.{StandsFor, applied_of, shown_tree};
 ghost use Rattle.plain_tree.specs.State.{is_named};
-ghost use Rattle.snap_run.specs.Server.{seen, entries_of, snaps_of, live_of, tree_of, count_of, has_room, Makes};
+ghost use Rattle.dentry_tree.specs.Dentries.{newest};
+ghost use Rattle.snap_run.specs.Server.{IsSettled, seen, entries_of, snaps_of, live_of, tree_of, count_of, has_room, Makes};
 
-use dentry_tree::{DirTree, TreeError};
+use crate::dirs::Dirs;
 use plain_types::{Answer, Change, Decision, Refusal};
-use snap_ids::{FIRST_INO, FIRST_SNAP, Ino, Kind, NOSNAP, Name, NoMemory, ROOT, SnapId};
+use snap_ids::{FIRST_INO, FIRST_SNAP, Ino, NOSNAP, Name, NoMemory, ROOT, SnapId};
 use std::alloc::Global;
 
 /// A snapshot, and the directory under which it was made.
@@ -27,7 +29,7 @@ pub struct Snapshot {
 /// The tree of directories with its snapshots, for one client whose lines are answered at once.
 #[derive(Debug, Drop)]
 pub struct Direct {
-    pub tree: DirTree,
+    pub tree: Dirs,
     pub snaps: Vec<Snapshot>,
     /// How many directories were made.
     pub made: u64,
@@ -72,18 +74,17 @@ pub fn refused(refusal: Refusal) -> Decision
 impl Direct {
     /// The root alone.
     pub fn new(alloc: Global) -> Result<Direct, NoMemory>
-        ensures tree { IfOk result (λ server. server.tree ≡ []) }
+        ensures entries { IfOk result (λ server. (s : SnapId) → entries_of server s ≡ []) }
+        ensures newest { IfOk result (λ server. newest server.tree ≡ 0) }
         ensures snaps { IfOk result (λ server. server.snaps.items ≡ []) }
         ensures made { IfOk result (λ server. server.made ≡ 0) }
     {
-        match DirTree::new(alloc) {
-            Ok(tree) => Ok(Direct {
-                tree,
-                snaps: Vec::new(alloc),
-                made: 0,
-            }),
-            Err(_) => Err(NoMemory),
-        }
+        let tree = Dirs::new(alloc)?;
+        Ok(Direct {
+            tree,
+            snaps: Vec::new(alloc),
+            made: 0,
+        })
     }
 
     /// Whether one more directory and one more snapshot may be made.
@@ -121,10 +122,7 @@ impl Direct {
     pub fn walk(&self, names: &[Name]) -> Result<Ino, Refusal>
         ensures { result ≡ walks.walk (live_of self.now).entries ROOT names.now }
     {
-        match self.tree.walk_names(ROOT, names, NOSNAP) {
-            Ok(ino) => Ok(ino),
-            Err(_) => Err(Refusal::NoEntry),
-        }
+        self.tree.walk(ROOT, names, NOSNAP)
     }
 
     /// The id of the directory's snapshot that has the name.
@@ -136,7 +134,8 @@ impl Direct {
 
     /// Makes a directory.
     pub fn new_entry(&mut self, dir: Ino, name: &Name) -> Result<Decision, NoMemory>
-        requires { IsTrue (has_room self.old) }
+        requires room { IsTrue (has_room self.old) }
+        requires settled { IsSettled self.old }
         ensures decided { IfOk result (λ decision. decision ≡ plain.new_entry (live_of self.old) name.now dir) }
 
         // A refusal needs no memory.
@@ -154,14 +153,9 @@ impl Direct {
         let applied = self.applied();
         let kept = copy_of(name)?;
         let name = copy_of(name)?;
-        match self.tree.put(dir, kept, ino, Kind::Dir, applied) {
-            Ok(()) => {
-                self.made += 1;
-                Ok(Decision::Put(Change::Mkdir { dir, name, ino }))
-            }
-            Err(TreeError::Exists | TreeError::NoEntry) => unreachable!(),
-            Err(TreeError::NoMemory) => Err(NoMemory),
-        }
+        self.tree.put(dir, kept, ino, applied)?;
+        self.made += 1;
+        Ok(Decision::Put(Change::Mkdir { dir, name, ino }))
     }
 
     /// Makes a snapshot of all under a directory.
@@ -205,12 +199,12 @@ impl Direct {
         ensures { IfOk result (λ answer.
             answer ≡ plain.answer_of (plain.list_from (tree_of self.now s) dir names.now)) }
     {
-        match self.tree.walk_names(dir, names, s) {
+        match self.tree.walk(dir, names, s) {
             Ok(found) => match self.tree.list(found, s) {
                 Ok(entries) => Ok(Answer::Listed(entries)),
-                Err(_) => Err(NoMemory),
+                Err(error) => Err(error),
             },
-            Err(_) => Ok(Answer::Refused(Refusal::NoEntry)),
+            Err(refusal) => Ok(Answer::Refused(refusal)),
         }
     }
 }

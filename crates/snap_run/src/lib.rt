@@ -2,6 +2,7 @@
 #![tactic(auto)]
 
 mod direct;
+mod dirs;
 mod edge;
 mod ends;
 mod run;

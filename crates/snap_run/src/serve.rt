@@ -9,7 +9,7 @@ ghost use Rattle.snap_run.specs.Ends.{IsTaken};
 ghost use Rattle.direct_history.specs.Walk as walks;
 ghost use Rattle.direct_history.specs.Direct.{ServesAfter};
 ghost use Rattle.direct_history.specs.Legal.{snap_answer, list_answer, line_answer, change_by, numbered, IsServed};
-ghost use Rattle.snap_run.specs.Server.{live_of, tree_of, count_of, has_room, Makes};
+ghost use Rattle.snap_run.specs.Server.{IsSettled, live_of, tree_of, count_of, has_room, Makes};
 ghost use Rattle.snap_run.specs.Event.{event_of, event_with};
 
 use crate::direct::{Direct, refused};
@@ -23,7 +23,8 @@ use std::alloc::Global;
 impl Direct {
     // `mkdir` of a path outside `.snap`.
     fn mkdir_live(&mut self, names: &[Name]) -> Result<Decision, NoMemory>
-        requires { IsTrue (has_room self.old) }
+        requires room { IsTrue (has_room self.old) }
+        requires settled { IsSettled self.old }
         ensures decided { IfOk result (λ decision.
             decision ≡ plain.mkdir_last (live_of self.old) names.now (slice_get names.now (length names.now - 1))) }
         ensures made { IfOk result (λ decision. Makes self.old self.new (plain.change_of decision)) }
@@ -53,7 +54,8 @@ impl Direct {
 
     // `mkdir`.
     fn mkdir(&mut self, path: &Path) -> Result<Decision, NoMemory>
-        requires { IsTrue (has_room self.old) }
+        requires room { IsTrue (has_room self.old) }
+        requires settled { IsSettled self.old }
         ensures decided { IfOk result (λ decision.
             decision ≡ plain.mkdir (live_of self.old) (walks.next_snap (live_of self.old)) (place_of path.now)) }
         ensures made { IfOk result (λ decision. Makes self.old self.new (plain.change_of decision)) }
@@ -107,7 +109,8 @@ impl Direct {
 
     // What a line comes to; its change is made.
     fn decide(&mut self, line: &Line) -> Result<Decision, NoMemory>
-        requires { IsTrue (has_room self.old) }
+        requires room { IsTrue (has_room self.old) }
+        requires settled { IsSettled self.old }
         ensures change { IfOk result (λ decision.
             plain.change_of decision ≡ change_by (live_of self.old) line.now) }
         ensures answer { IfOk result (λ decision. (client : ℕ) →
@@ -133,6 +136,7 @@ impl Direct {
         line: &Line,
     ) -> Result<Event, NoMemory>
         requires room { IsTrue (has_room self.old) }
+        requires settled { IsSettled self.old }
         requires taken { is_served line.now ≡ true }
         ensures served { IfOk result (λ event.
             IsServed (live_of self.old) (tree_of self.old) (count_of self.old)

@@ -5,16 +5,16 @@ use Rattle.dentry_tree.proofs.Lists.{all_taken, all_dropped}
 use Rattle.dentry_tree.proofs.Order.{partitioned, stands_before_before}
 use Rattle.dentry_tree.proofs.places.place.Goals as goal
 
--- the closure tells what stands before the name, and those versions come first
+-- the closure tells what stands before the name, and those dentries come first
 pub returns : goal.returns
 returns c =
     let dir = c.args.dir in
     let name = c.args.name.now in
-    let versions = c.args.versions.now in
+    let dentries = c.args.dentries.now in
     let found = c.partition_point.ensures in
-    let point = IsPartitionPoint-from_clause (stands_before dir name) versions c.partition_point.result found.partitioned (partitioned (stands_before dir name) (stands_before_before dir name) versions c.requires) (λ a r g called. search rules) in
+    let point = IsPartitionPoint-from_clause (stands_before dir name) dentries c.partition_point.result found.partitioned (partitioned (stands_before dir name) (stands_before_before dir name) dentries c.requires) (λ a r g called. search rules) in
     record {
       within = found.bound;
-      before = all_taken (λ v. stands_before dir name v ≡ true) versions c.partition_point.result point.0;
-      behind = all_dropped (λ v. stands_before dir name v ≡ false) versions c.partition_point.result point.1;
+      before = all_taken (λ d. stands_before dir name d ≡ true) dentries c.partition_point.result point.0;
+      behind = all_dropped (λ d. stands_before dir name d ≡ false) dentries c.partition_point.result point.1;
     }

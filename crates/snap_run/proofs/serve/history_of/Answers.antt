@@ -10,7 +10,7 @@ use Rattle.snap_run.proofs.serve.history_of.Goals as goal
 pub loop-i-init : goal.loop-i-init
 loop-i-init c =
     let server = c.in_ok-server.ensures in
-    first_step c.in_ok-server.server c.in_ok-events.events.items server.tree server.snaps server.made c.in_ok-events.ensures.items
+    first_step c.in_ok-server.server c.in_ok-events.events.items server.entries server.newest server.snaps server.made c.in_ok-events.ensures.items
 
 pub serve-requires-clause-room : goal.serve-requires-clause-room
 serve-requires-clause-room c =
@@ -25,7 +25,7 @@ loop-i-preserved c =
     let line = c.index-lines-i.result in
     let taken = taken_at c.args.lines.now c.loop-i.i line c.requires.taken c.loop-i-test.true c.index-lines-i.is in
     let room = room_after c.loop-i.server (effects c.loop-i.events.items) c.loop-i.i (length c.args.lines.now) c.loop-i.invariant.stands c.loop-i.invariant.few c.loop-i-test.true c.requires.few in
-    next_step c.loop-i.server c.serve.new.self c.args.lines.now c.loop-i.events.items c.push.new.self.items c.loop-i.i _ line c.in_ok-serve.field-0 c.loop-i-test.true c.index-lines-i.is refl (of_one line taken) room c.loop-i.invariant.stands c.loop-i.invariant.serves c.in_ok-serve.ensures.served c.in_ok-serve.ensures.made c.in_ok-push.ensures.items c.loop-i.invariant.few
+    next_step c.loop-i.server c.serve.new.self c.args.lines.now c.loop-i.events.items c.push.new.self.items c.loop-i.i _ line c.in_ok-serve.field-0 c.loop-i-test.true c.index-lines-i.is refl (of_one line taken) room c.loop-i.invariant.stands c.loop-i.invariant.settled c.loop-i.invariant.serves c.in_ok-serve.ensures.served c.in_ok-serve.ensures.made c.in_ok-push.ensures.items c.loop-i.invariant.few
 
 pub returns : goal.returns
 returns c =

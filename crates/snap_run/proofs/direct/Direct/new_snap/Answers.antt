@@ -38,6 +38,7 @@ returns-clause-made c =
           ∙ map-append seen old (record { id = c.next_snap-id.result; dir = c.args.dir; name = c.in_ok-kept.kept } ∷ [])
           ∙ (λ i. map seen old ++ record { id = c.next_snap-id.result; root = c.args.dir; name = same i; live = true } ∷ []);
       made = refl;
+      settled = refl;
     }
 
 -- only a change takes memory
