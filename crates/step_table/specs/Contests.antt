@@ -111,3 +111,7 @@ small_objects = record (script 1
     (by 1 (opened ++ Write 1 0 (codes "abcdefghijklmnopqr") ∷ Mkdir s_of_a ∷ Write 1 16 (codes "XY") ∷ Clones f 1 ∷ Clones f 0
     ∷ Cat f_in_s ∷ []))
     (All ∷ [])) { object = Some 16 }
+
+-- a restart line: once one entry was buffered, the server restarts and keeps none
+abbrev pub restart_line : Script
+restart_line = record (script 1 (by 1 (Mkdir a ∷ [])) []) { restarts = (1, 0) ∷ [] }

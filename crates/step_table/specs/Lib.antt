@@ -22,3 +22,4 @@ pub mod Promise
 pub mod Kept
 pub mod Contests
 pub mod Drops
+pub mod Nodes

@@ -1,9 +1,11 @@
 // What the table says of small stories, and beside it what it doesn't say.
-ghost use Rattle.std.specs.Prelude.{◌≡◌, ◌∷◌, [], Some, true, codes};
+ghost use Rattle.std.specs.Prelude.{◌≡◌, ◌∷◌, [], Some, true, false, codes};
 ghost use Rattle.plain_types.specs.declared.answer.Answer.TheVariants.{Refused, Pending, Gone, StatFile};
 ghost use Rattle.plain_types.specs.declared.answer.Refusal.TheVariants.{NoEntry};
 ghost use Rattle.step_table.specs.Example.{told, answer, bytes_answered, served, snaps_made, ids, snap, bytes, dirs, files, clone, clones};
-ghost use Rattle.step_table.specs.Contests.{stops_at, ends_early, both_want_to_write, small_objects, reader_and_writer, let_go_while_asking, told_of_its_own, told_in_order, mark_too_early, one_survives, heard_at_once, restarted_before_the_flush, restarted_before_the_notice, broken_while_recalled, at_a_barrier, nothing_to_commit, never_run};
+ghost use Rattle.step_table.specs.Contests.{stops_at, ends_early, restart_line, both_want_to_write, small_objects, reader_and_writer, let_go_while_asking, told_of_its_own, told_in_order, mark_too_early, one_survives, heard_at_once, restarted_before_the_flush, restarted_before_the_notice, broken_while_recalled, at_a_barrier, nothing_to_commit, never_run};
+ghost use Rattle.plain_types.specs.declared.history.Step.TheVariants.{Op, ServerTakes, Commit, Restart};
+ghost use Rattle.step_table.specs.Restarts.{restarts_as_written};
 ghost use Rattle.step_table.specs.Stories.{before_the_notice, after_the_notice, pending_then_bytes, hand_over, two_notices, moved_in_between, made_and_lost, made_and_kept, prepare_lost, broken_before_the_reply, clones_listed, purged_before_the_read, asked_again_while_deferred, listed, linked, cut_and_grown, unlinked};
 
 /// A writer that hasn't heard of a snapshot writes into it; what it writes after the notice isn't in it.
@@ -174,4 +176,12 @@ pub fn a_barrier_waits_for_all()
 pub fn a_schedule_can_fail()
     ensures refused { stops_at nothing_to_commit ≡ Some 1 }
     ensures unfinished { ends_early never_run ≡ true }
+{}
+
+/// A restart line acts as the server's next step once so many entries were buffered, and nothing else restarts it.
+pub fn a_restart_line_acts_next()
+    ensures acts { restarts_as_written restart_line (Op 1 ∷ ServerTakes 1 ∷ Restart 0 ∷ []) ≡ true }
+    ensures not_later { restarts_as_written restart_line (Op 1 ∷ ServerTakes 1 ∷ Commit ∷ Restart 0 ∷ []) ≡ false }
+    ensures not_never { restarts_as_written restart_line (Op 1 ∷ ServerTakes 1 ∷ []) ≡ false }
+    ensures not_before { restarts_as_written restart_line (Op 1 ∷ Restart 0 ∷ ServerTakes 1 ∷ []) ≡ false }
 {}

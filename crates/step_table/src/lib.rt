@@ -17,11 +17,11 @@ pub use examples::{
     a_deferred_request_is_made_once, a_file_is_handed_over, a_file_is_let_go_while_it_is_asked_for,
     a_file_is_pending_until_it_is_flushed, a_file_of_two_names_is_in_both,
     a_link_breaks_before_the_reply, a_mark_waits_for_its_pieces, a_move_comes_in_between,
-    a_purge_overtakes_a_read, a_reader_gives_way, a_restart_is_heard_at_once, a_schedule_can_fail,
-    a_snapshot_lists_what_was_there, a_snapshot_outlives_a_restart, a_write_clones_its_object,
-    a_writer_comes_back, a_writer_hears_of_a_snapshot_late, an_open_file_loses_its_name,
-    the_first_entries_survive, the_notice_comes_first, two_readers_become_writers,
-    two_snapshots_have_their_sizes,
+    a_purge_overtakes_a_read, a_reader_gives_way, a_restart_is_heard_at_once,
+    a_restart_line_acts_next, a_schedule_can_fail, a_snapshot_lists_what_was_there,
+    a_snapshot_outlives_a_restart, a_write_clones_its_object, a_writer_comes_back,
+    a_writer_hears_of_a_snapshot_late, an_open_file_loses_its_name, the_first_entries_survive,
+    the_notice_comes_first, two_readers_become_writers, two_snapshots_have_their_sizes,
 };
 pub use promises::{cuts_are_closed, replies_are_plain};
 pub use runs::what_the_table_runs_is_legal;
