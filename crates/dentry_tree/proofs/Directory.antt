@@ -1,6 +1,6 @@
 -- The dentries of one directory in an ordered list, and what they list.
 use Rattle.std.proofs.Common.{◌≡◌, ℕ, ◌≤◌, Bool, true, false, cond, List, [], ◌∷◌, ◌++◌, take, drop, nat_lt, nat_le, Option, None, Some, refl, sym, ◌∙◌, ap, subst, arith}
-use Rattle.std.specs.List.{AllByRecursion, filter, filter_map, cons_option}
+use Rattle.std.specs.List.{AllByRecursion, filter, filter_map, cons_option, list_any}
 use Rattle.std.specs.Option.{option_map}
 use Rattle.std.proofs.lemmas.List.{take-append-drop, append-nil}
 use Rattle.std.proofs.lemmas.List.Elements.{filter-append}
@@ -9,9 +9,9 @@ use Rattle.snap_ids.specs.declared.id.Ino.{Ino}
 use Rattle.snap_ids.specs.declared.id.SnapId.{SnapId}
 use Rattle.snap_ids.specs.declared.id.TheConstants.{ROOT}
 use Rattle.snap_ids.specs.declared.values.Kind.{Kind}
-use Rattle.plain_tree.specs.State.{Entry, precedes, listing}
+use Rattle.plain_tree.specs.State.{Entry, precedes, listing, same_ino}
 use Rattle.dentry_tree.specs.Dentries.{Dentry, entry_of, ino_at, entries_in, IsBefore}
-use Rattle.dentry_tree.specs.Places.{is_in, item_at}
+use Rattle.dentry_tree.specs.Places.{is_in, item_at, is_found_at}
 use Rattle.dentry_tree.proofs.Lists.{all_weaker, all_take, all_both}
 use Rattle.dentry_tree.proofs.Entries.{entries_in-nil, entries_in-cons}
 
@@ -100,3 +100,20 @@ module _ (s : SnapId) (kind : Ino → Kind) (dir : Ino) where
   pub listing_items : (ds : List Dentry) → filter_map (item_at s kind) (filter (is_in dir) ds) ≡ listing kind (entries_in s ds) dir
   listing_items [] = rw (entries_in-nil s) refl
   listing_items (d ∷ ds) = listing_more (is_in dir d) (ino_at s d.versions) d ds refl refl (listing_items ds) ∙ ap (λ es. listing kind es dir) (sym (entries_in-cons s d ds))
+
+-- the entry is one of the directory
+abbrev pub is_of : Ino → Entry → Bool
+is_of dir entry = same_ino entry.dir dir
+
+module _ (s : SnapId) (dir : Ino) where
+  -- one more dentry, in the directory or not, with an inode or not
+  some_more : (here : Bool) (found : Option Ino) (d : Dentry) (ds : List Dentry) → is_in dir d ≡ here → ino_at s d.versions ≡ found → list_any (is_found_at s) (filter (is_in dir) ds) ≡ list_any (is_of dir) (entries_in s ds) → list_any (is_found_at s) (cond here (d ∷ filter (is_in dir) ds) (filter (is_in dir) ds)) ≡ list_any (is_of dir) (cons_option (option_map (entry_of d) found) (entries_in s ds))
+  some_more true None d ds is_here is rest = rw is rest
+  some_more true (Some ino) d ds is_here is rest = rw (is, is_here) refl
+  some_more false None d ds is_here is rest = rest
+  some_more false (Some ino) d ds is_here is rest = rw is_here rest
+
+  -- a name of the directory has an inode at an id exactly where an entry is one of the directory
+  pub some_entries : (ds : List Dentry) → list_any (is_found_at s) (filter (is_in dir) ds) ≡ list_any (is_of dir) (entries_in s ds)
+  some_entries [] = rw (entries_in-nil s) refl
+  some_entries (d ∷ ds) = some_more (is_in dir d) (ino_at s d.versions) d ds refl refl (some_entries ds) ∙ ap (list_any (is_of dir)) (sym (entries_in-cons s d ds))

@@ -1,5 +1,5 @@
 -- Where a name of a directory stands, and what one more version, a cut and a trim leave.
-use Rattle.std.specs.Prelude.{◌≡◌, ◌≤◌, ◌<◌, ℕ, ◌+◌, Bool, true, false, not, ◌||◌, ◌==◌, nat_le, min, max, List, [], ◌∷◌, ◌++◌, length, take, drop, map, filter, insert, set, if◌then◌else◌, Option, None, Some}
+use Rattle.std.specs.Prelude.{◌≡◌, ◌≤◌, ◌<◌, ℕ, ◌+◌, Bool, true, false, not, ◌||◌, ◌==◌, nat_le, min, max, List, [], ◌∷◌, ◌++◌, length, take, drop, map, filter, insert, set, is_some, if◌then◌else◌, Option, None, Some}
 use Rattle.std.specs.List.{AllByRecursion, list_any, count_by, sum_by}
 use Rattle.std.specs.Option.{option_map}
 use Rattle.snap_ids.specs.declared.id.Ino.{Ino}
@@ -42,6 +42,10 @@ begun s (Some version) = if nat_le version.valid.first.0 s.0 then Some version.i
 -- the dentry is one of the directory
 abbrev pub is_in : Ino → Dentry → Bool
 is_in dir dentry = same_ino dentry.dir dir
+
+-- the name has an inode at an id
+abbrev pub is_found_at : SnapId → Dentry → Bool
+is_found_at s dentry = is_some (ino_at s dentry.versions)
 
 -- what a directory lists for a dentry at an id
 abbrev pub item_at : SnapId → (Ino → Kind) → Dentry → Option (List ℕ × Kind)

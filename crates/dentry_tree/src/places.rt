@@ -1,11 +1,11 @@
 // Dentries in the order of their directories and names.
 ghost use Rattle.std.specs.Prelude.{◌≡◌, ◌↔◌, ◌<◌, ◌≤◌, ◌^◌, ◌+◌, ◌++◌, insert, set, if◌then◌else◌, None, Some, slice_get, take, drop, length, map, filter, filter_map, IsSome, IfOk, IfErr, OnOk, OnErr, IsErrOf};
-ghost use Rattle.std.specs.List.{AllByRecursion};
+ghost use Rattle.std.specs.List.{AllByRecursion, list_any};
 ghost use Rattle.std.specs.Option.{option_copied};
 ghost use Rattle.snap_ids.specs.declared.id.Ino.{Ino as Inode};
 ghost use Rattle.plain_tree.specs.State.{lookup, same_ino};
 ghost use Rattle.dentry_tree.specs.Dentries.{Dentry as Named, entries_in, kind_in, newest_in, IsInOrder, AreVersions, AreDentries, total};
-ghost use Rattle.dentry_tree.specs.Places.{IsPlace, found_at, has_it, is_in, item_at, with_version, begun_at, cut_dentry, kept, trimmed_all, count_unneeded, Puts, Cuts};
+ghost use Rattle.dentry_tree.specs.Places.{IsPlace, found_at, has_it, is_found_at, is_in, item_at, with_version, begun_at, cut_dentry, kept, trimmed_all, count_unneeded, Puts, Cuts};
 
 use crate::dentry::Dentry;
 use crate::error::TreeError;
@@ -207,6 +207,21 @@ pub(crate) fn of_directory(dentries: &[Dentry], dir: Ino) -> &[Dentry]
     let rest = &dentries[from..];
     let count = rest.partition_point(|dentry| dentry.dir() <= dir);
     &rest[..count]
+}
+
+// Whether one of these names has an inode at an id.
+pub(crate) fn has_some(dentries: &[Dentry], s: SnapId) -> bool
+    requires { AllByRecursion AreVersions dentries.now }
+    ensures { result ≡ list_any (is_found_at s) dentries.now }
+{
+    let mut left = dentries;
+    while let Some((dentry, rest)) = left.split_first() {
+        if dentry.ino_at(s).is_some() {
+            return true;
+        }
+        left = rest;
+    }
+    false
 }
 
 // What a directory lists for a dentry that names an inode.

@@ -1,10 +1,11 @@
 // The entries of a tree, now and as they were.
 ghost use Rattle.std.specs.Prelude.{max, ◌≡◌, ◌↔◌, ◌<◌, ◌≤◌, [], true, None, Some, Ok, Err, slice_get, if◌then◌else◌, IsSome, IfOk, IfErr, OnOk, OnErr, IsErrOf};
+ghost use Rattle.std.specs.List.{list_any};
 ghost use Rattle.snap_ids.specs.Context.{is_listed};
 ghost use Rattle.snap_ids.specs.declared.id.SnapId.{SnapId};
 ghost use Rattle.snap_ids.specs.declared.id.Ino.{Ino as Inode};
 ghost use Rattle.snap_ids.specs.declared.values.Kind.TheVariants.{Dir};
-ghost use Rattle.plain_tree.specs.State.{lookup, add, listing, same_ino};
+ghost use Rattle.plain_tree.specs.State.{Entry, lookup, add, listing, same_ino};
 ghost use Rattle.plain_tree.specs.Change.{without, entry};
 ghost use Rattle.plain_tree.specs.Walk.{walk};
 ghost use Rattle.dentry_tree.specs.Dentries.{entries_at, kind_of, newest};
@@ -14,7 +15,7 @@ ghost use Rattle.dentry_tree.specs.Answers.{IsRefusal, IsOfPut, file_answer, dir
 use crate::dentry::Dentry;
 use crate::error::TreeError;
 use crate::kinds::Kinds;
-use crate::places::{cut, find, found_at, listed, of_directory, place, put, trim, unneeded};
+use crate::places::{cut, find, found_at, has_some, listed, of_directory, place, put, trim, unneeded};
 use snap_ids::{Entries, Ids, Ino, Kind, NOSNAP, Name, Path, SnapId};
 use std::alloc::Global;
 use std::marker::Model;
@@ -135,8 +136,8 @@ impl DirTree {
         found_at(&self.dentries, place, dir, name, NOSNAP)
     }
 
-    // What an inode is.
-    fn kind_of(&self, ino: Ino) -> Kind
+    /// What an inode was put as last; a directory where it wasn't put.
+    pub fn kind_of(&self, ino: Ino) -> Kind
         ensures { result ≡ kind_of self.now ino }
     {
         self.kinds.of(ino)
@@ -241,6 +242,13 @@ impl DirTree {
             Ok(items) => Ok(Entries::from_vec(items)),
             Err(error) => Err(error),
         }
+    }
+
+    /// Whether a directory has an entry at an id. It takes no memory.
+    pub fn has_entries(&self, dir: Ino, s: SnapId) -> bool
+        ensures { result ≡ list_any (λ (entry : Entry). same_ino entry.dir dir) (entries_at s self.now) }
+    {
+        has_some(of_directory(&self.dentries, dir), s)
     }
 
     /// Drops the versions of entries that are neither live nor valid at an id of a list, and answers how many. What stood

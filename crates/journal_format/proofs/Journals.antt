@@ -11,7 +11,7 @@ use Rattle.journal_format.proofs.Formats.{words, some_is}
 use Rattle.journal_format.proofs.Listed.{same_is}
 
 -- files that begin with a batch begin with the same one, and go on alike
-same_batch : (a b : List Entry) (x y : List ℕ) → IsBatch a → IsBatch b → batch a ++ x ≡ batch b ++ y → (a ≡ b) × (x ≡ y)
+pub same_batch : (a b : List Entry) (x y : List ℕ) → IsBatch a → IsBatch b → batch a ++ x ≡ batch b ++ y → (a ≡ b) × (x ≡ y)
 same_batch a b x y first second e =
     let m = length (bytes_of_all a) in
     let n = length (bytes_of_all b) in
@@ -26,7 +26,7 @@ same_batch a b x y first second e =
     let backs : x ≡ y = sym (drop_at (bytes_of_all a) x m refl) ∙ ap (λ (l : List ℕ). drop m l) bodies ∙ drop_at (bytes_of_all b) y m (sym counts) in
     (same_is a b first.within second.within fronts, backs)
 
-regrouped : (first : List Entry) (batches : List (List Entry)) (rest : List ℕ) → flat_map batch (first ∷ batches) ++ rest ≡ batch first ++ (flat_map batch batches ++ rest)
+pub regrouped : (first : List Entry) (batches : List (List Entry)) (rest : List ℕ) → flat_map batch (first ∷ batches) ++ rest ≡ batch first ++ (flat_map batch batches ++ rest)
 regrouped first batches rest = ap (λ (l : List ℕ). l ++ rest) (flat_map-cons batch first batches) ∙ append_assoc (batch first) (flat_map batch batches) rest
 
 -- batches up to a closed gate are the same

@@ -1,14 +1,19 @@
 -- Small stories of a journal.
-use Rattle.std.specs.Prelude.{ℕ, ◌+◌, true, List, [], ◌∷◌, ◌++◌, map, codes}
+use Rattle.std.specs.Prelude.{ℕ, zero, suc, ◌+◌, true, false, List, [], ◌∷◌, ◌++◌, map, codes, Result}
+use Rattle.std.specs.Fmt.{digits_onto}
 use Rattle.snap_ids.specs.declared.id.Ino.{Ino}
 use Rattle.snap_ids.specs.declared.id.SnapId.{SnapId}
 use Rattle.snap_ids.specs.declared.values.Kind.{Kind}
 use Rattle.snap_ids.specs.declared.values.Kind.TheVariants.{Dir}
 use Rattle.plain_types.specs.declared.answer.Answer.{Answer}
+use Rattle.plain_types.specs.declared.answer.Refusal.{Refusal}
+use Rattle.plain_types.specs.declared.change.Change.{Change}
 use Rattle.plain_types.specs.declared.entry.Entry.{Entry}
 use Rattle.plain_types.specs.declared.entry.What.{What}
 use Rattle.plain_types.specs.declared.entry.What.TheVariants.{Mkdir, Create, Link, Unlink, Rename, Chmod, OpenFile, CloseFile, PrepareCreate, Mksnap, PrepareDestroy, Rmsnap, Settle, Release, Purgedone, Deadfile}
 use Rattle.plain_types.specs.declared.request.Query.TheVariants as query
+use Rattle.plain_tree.specs.Request.{new_snap}
+use Rattle.plain_journal.specs.Entries.{state_after}
 use Rattle.plain_journal.specs.Answers.{answer_to}
 
 -- the entry that a client's request makes
@@ -119,3 +124,27 @@ closed = open_and_unlinked ++ map entry (CloseFile 1 ∷ [])
 
 abbrev pub collected : List Entry
 collected = closed ++ map entry (Deadfile (inode 0) ∷ [])
+
+-- snapshots are named by their ids
+abbrev pub name : ℕ → List ℕ
+name n = codes "s" ++ digits_onto 64 10 false n []
+
+-- so many snapshots of a directory, from this id on
+abbrev pub snapshots : Ino → ℕ → ℕ → List What
+snapshots dir zero first = []
+snapshots dir (suc more) first = Mksnap (snap first) dir (name first) ∷ snapshots dir more (suc first)
+
+-- `/a` and `/b`, and so many snapshots of the first and then of the second
+abbrev pub snapshots_of_both : ℕ → ℕ → List Entry
+snapshots_of_both of_a of_b = map entry
+    (Mkdir root (codes "a") (inode 0)
+    ∷ Mkdir root (codes "b") (inode 1)
+    ∷ snapshots (inode 0) of_a 2 ++ snapshots (inode 1) of_b (2 + of_a))
+
+-- a further snapshot of the n-th directory, with an id above all of these
+abbrev pub further : ℕ → Entry
+further n = entry (Mksnap (snap 200) (inode n) (codes "t"))
+
+-- what a request for one comes to
+abbrev pub asked : List Entry → ℕ → List ℕ → Result Change Refusal
+asked entries n name = new_snap (state_after entries) (snap 200) name (inode n)

@@ -1,9 +1,10 @@
 // What the definitions say of small stories, and beside it what they don't say.
-ghost use Rattle.std.specs.Prelude.{◌≡◌, ◌++◌, ◌∷◌, [], Some, None, true, false, codes};
+ghost use Rattle.std.specs.Prelude.{◌≡◌, ◌++◌, ◌∷◌, [], Some, None, Ok, Err, true, false, codes};
 ghost use Rattle.snap_ids.specs.declared.id.TheConstants.{NOSNAP, GLOBAL, STRAY};
 ghost use Rattle.snap_ids.specs.declared.values.Kind.TheVariants.{File};
 ghost use Rattle.plain_types.specs.declared.answer.Answer.TheVariants.{Refused, Listed, RealmIs, StatFile, StatDir, FoundLive, FoundSnap};
-ghost use Rattle.plain_types.specs.declared.answer.Refusal.TheVariants.{NoSnap};
+ghost use Rattle.plain_types.specs.declared.answer.Refusal.TheVariants.{NoSnap, Exists, TooManySnaps, TooManyLive};
+ghost use Rattle.plain_types.specs.declared.change.Change.TheVariants as change;
 ghost use Rattle.plain_types.specs.declared.entry.What.TheVariants.{Mksnap, Rmsnap, Purgedone, Deadfile, Create};
 ghost use Rattle.plain_types.specs.declared.request.Query.TheVariants as query;
 ghost use Rattle.plain_journal.specs.Answers.{answer_to};
@@ -12,7 +13,7 @@ ghost use Rattle.plain_journal.specs.Realms.{realm_at, shown};
 ghost use Rattle.plain_journal.specs.Settled.{shape_at};
 ghost use Rattle.plain_journal.specs.Table.{outstanding, to_purge, dead};
 ghost use Rattle.plain_journal.specs.Legal.{is_legal};
-ghost use Rattle.plain_journal.specs.Example.{entry, inode, root, snap, dir, lists, snapshot, removed, dropped, moved, moved_between, linked, unlinked, flushed, open_and_unlinked, closed, collected};
+ghost use Rattle.plain_journal.specs.Example.{entry, inode, root, snap, dir, lists, snapshot, removed, dropped, moved, moved_between, linked, unlinked, flushed, open_and_unlinked, closed, collected, name, snapshots_of_both, further, asked};
 
 /// A snapshot of a directory is listed in the `.snap` of what was below it then, under an inherited name.
 pub fn a_snapshot_is_inherited()
@@ -111,4 +112,19 @@ pub fn entries_that_fit_are_legal()
     ensures not_what_is_live { is_legal snapshot (entry (Purgedone (snap 2))) ≡ false }
     ensures a_dead_file { is_legal closed (entry (Deadfile (inode 0))) ≡ true }
     ensures not_one_in_use { is_legal open_and_unlinked (entry (Deadfile (inode 0))) ≡ false }
+{}
+
+/// A directory can have 100 live snapshots, and there can be 128 in all; one that is removed makes room.
+pub fn snapshots_have_limits()
+    ensures the_last_of_one { is_legal (snapshots_of_both 99 0) (further 0) ≡ true }
+    ensures none_further { is_legal (snapshots_of_both 100 0) (further 0) ≡ false }
+    ensures of_another { is_legal (snapshots_of_both 100 0) (further 1) ≡ true }
+    ensures the_last_of_all { is_legal (snapshots_of_both 64 63) (further 0) ≡ true }
+    ensures not_one_above { is_legal (snapshots_of_both 64 64) (further 0) ≡ false }
+    ensures a_removal_makes_room { is_legal (snapshots_of_both 100 28 ++ entry (Rmsnap (snap 7)) ∷ []) (further 0) ≡ true }
+    ensures too_many { asked (snapshots_of_both 100 0) 0 (codes "t") ≡ Err TooManySnaps }
+    ensures too_many_live { asked (snapshots_of_both 64 64) 0 (codes "t") ≡ Err TooManyLive }
+    ensures its_own_limit_first { asked (snapshots_of_both 100 28) 0 (codes "t") ≡ Err TooManySnaps }
+    ensures a_taken_name_before_both { asked (snapshots_of_both 100 28) 0 (name 7) ≡ Err Exists }
+    ensures made { asked (snapshots_of_both 99 28) 0 (codes "t") ≡ Ok (change.Mksnap (snap 200) (inode 0) (codes "t")) }
 {}

@@ -1,0 +1,15 @@
+pub mod Facts
+pub mod Put
+pub mod Given
+pub mod Contexts
+pub mod Ways
+pub mod Same
+pub mod Born
+pub mod Dropped
+pub mod Gone
+pub mod Leaves
+pub mod Snapped
+pub mod Moved
+pub mod Moves
+pub mod Start
+pub mod Told

@@ -1,0 +1,4 @@
+pub mod Family
+pub mod Records
+pub mod Stands
+pub mod Example
