@@ -39,38 +39,9 @@ pub change_at_past : (first : ℕ) (changes : List (Option Change)) (k : ℕ) �
 change_at_past first changes k h = change_at_from first changes k (omega arith)
     ∙ ap (option_map next) (get_or_past changes (k - first) None (omega arith))
 
--- what a walk over a file's objects does to each
-pub retained : {F : Type 0} (T : F → ℕ → Object → Bool → Object → F → Type 0) (s : SnapId) (f : F)
-    → ((k : ℕ) (v : Object) (b : Bool) (w : Object) (f' : F) → T f k v b w f' → (b ≡ true) × (plain w ≡ purged s (plain v)) × (f' ≡ f))
-    → (test : ℕ → Bool) (es kept : List (ℕ × Object)) → RetainsPairs T f es kept
-    → plain_or_blank (lookup test kept) ≡ purged s (plain_or_blank (lookup test es))
-retained {F} T s f each test [] kept r = ap (λ es. plain_or_blank (lookup test es)) r
-retained {F} T s f each test (e ∷ es) kept r =
-    let one : (r.0 ≡ true) × (plain r.1 ≡ purged s (plain e.1)) × (r.2 ≡ f) = each e.0 e.1 r.0 r.1 r.2 r.4 in
-    let R : F → Type 0 = λ g. RetainsPairs T g es r.3 in
-    let more : plain_or_blank (lookup test r.3) ≡ purged s (plain_or_blank (lookup test es)) =
-    retained T s f each test es r.3 (subst R one.2 r.5) in
-    ap (λ xs. plain_or_blank (lookup test xs)) (r.6 ∙ ap (λ b. cond b ((e.0, r.1) ∷ r.3) r.3) one.0)
-    ∙ elim (test e.0) as (λ b. plain_or_blank (cond b (Some r.1) (lookup test r.3)) ≡ purged s (plain_or_blank (cond b (Some e.1) (lookup test es))))
-    [ true ↦ one.1 | false ↦ more ]
-
 pub some_from_map : (c : Option Change) → IsSome (option_map next c) → IsSome c
 some_from_map None h = h
 some_from_map (Some x) h = refl
-
-pub retained_files : {F : Type 0} (T : F → ℕ → File → Bool → File → F → Type 0) (s : SnapId) (f : F)
-    → ((k : ℕ) (v : File) (b : Bool) (w : File) (f' : F) → T f k v b w f' → (b ≡ true) × ((index : ℕ) → object_in w index ≡ purged s (object_in v index)) × (f' ≡ f))
-    → (test : ℕ → Bool) (es kept : List (ℕ × File)) → RetainsPairs T f es kept
-    → (index : ℕ) → object_or_blank (lookup test kept) index ≡ purged s (object_or_blank (lookup test es) index)
-retained_files {F} T s f each test [] kept r index = ap (λ es. object_or_blank (lookup test es) index) r
-retained_files {F} T s f each test (e ∷ es) kept r index =
-    let one : (r.0 ≡ true) × ((index : ℕ) → object_in r.1 index ≡ purged s (object_in e.1 index)) × (r.2 ≡ f) = each e.0 e.1 r.0 r.1 r.2 r.4 in
-    let R : F → Type 0 = λ g. RetainsPairs T g es r.3 in
-    let more : object_or_blank (lookup test r.3) index ≡ purged s (object_or_blank (lookup test es) index) =
-    retained_files T s f each test es r.3 (subst R one.2 r.5) index in
-    ap (λ xs. object_or_blank (lookup test xs) index) (r.6 ∙ ap (λ b. cond b ((e.0, r.1) ∷ r.3) r.3) one.0)
-    ∙ elim (test e.0) as (λ b. object_or_blank (cond b (Some r.1) (lookup test r.3)) index ≡ purged s (object_or_blank (cond b (Some e.1) (lookup test es)) index))
-    [ true ↦ one.1 index | false ↦ more ]
 
 -- an object that never was has no bytes
 pub blank_bytes : (s : Option SnapId) → or_empty (bytes_shown s blank) ≡ []

@@ -2,6 +2,8 @@ pub mod Rises
 pub mod Steps
 pub mod Clones
 pub mod Changes
+pub mod Noted
+pub mod Covered
 pub mod Places
 pub mod Decided
 pub mod Found

@@ -1,5 +1,5 @@
 -- The objects of a file by their indexes.
-use Rattle.std.specs.Prelude.{ℕ, ◌-◌, ◌/◌, ◌%◌, nat_lt, if◌then◌else◌, List, slice_index, slice_index_or, Option, None, Some, IsSome}
+use Rattle.std.specs.Prelude.{ℕ, ◌≡◌, ◌-◌, ◌/◌, ◌%◌, false, nat_lt, if◌then◌else◌, List, slice_index, slice_index_or, Option, None, Some, IsSome}
 use Rattle.std.specs.Option.{option_map}
 use Rattle.std.specs.Ordering.{nat_cmp}
 use Rattle.std.specs.BTreeMap.{get}
@@ -9,7 +9,9 @@ use Rattle.object_clones.specs.declared.object.Object.{Object}
 use Rattle.object_clones.specs.declared.object.Change.{Change}
 use Rattle.object_clones.specs.declared.file.File.{File}
 use Rattle.object_clones.specs.Bytes.{or_empty}
-use Rattle.object_clones.specs.Objects.{Plain, blank, plain, bytes_shown, HasRoom, Next, next}
+use Rattle.object_clones.specs.declared.listing.Listing.{Listing}
+use Rattle.object_clones.specs.Listing.{noted}
+use Rattle.object_clones.specs.Objects.{Plain, blank, plain, bytes_shown, HasRoom, IsLeft, Next, next}
 
 -- an object that never was is blank
 abbrev pub plain_or_blank : Option Object → Plain
@@ -40,3 +42,7 @@ change_at first changes index =
 -- there is room for each change
 abbrev pub HasRooms : File → ℕ → List (Option Change) → Type 0
 HasRooms file first changes = (index : ℕ) → IsSome (change_at first changes index) → HasRoomAt file index
+
+-- a purge of an id leaves each object of a file that isn't noted for it
+abbrev pub CoversFile : Listing → ℕ → File → Type 0
+CoversFile listing ino file = (s : SnapId) (index : ℕ) → noted listing s ino index ≡ false → IsLeft s (object_in file index)

@@ -117,6 +117,10 @@ purged_clones s clones = filter serves_some (map (without s) clones)
 abbrev pub purged : SnapId → Plain → Plain
 purged s o = record o { clones = purged_clones s o.clones }
 
+-- a purge of an id leaves an object as it is
+abbrev pub IsLeft : SnapId → Plain → Type 0
+IsLeft s o = purged s o ≡ o
+
 -- the bytes of the first clone whose id isn't below a snapshot's, if it serves the snapshot
 abbrev pub clone_at : SnapId → List Kept → Option (List ℕ)
 clone_at s [] = None

@@ -1,5 +1,5 @@
 -- The object store as contracts see it.
-use Rattle.std.specs.Prelude.{ℕ, ◌≡◌, ◌*◌, ◌==◌, ◌||◌, nat_eq, List, [], map, if◌then◌else◌, Option, None, Some}
+use Rattle.std.specs.Prelude.{ℕ, ◌≡◌, ◌*◌, ◌==◌, ◌||◌, false, nat_eq, List, [], map, if◌then◌else◌, Option, None, Some}
 use Rattle.std.specs.Map.{lookup}
 use Rattle.std.specs.Ordering.{nat_cmp}
 use Rattle.std.specs.BTreeMap.{is_at, get}
@@ -10,7 +10,8 @@ use Rattle.snap_ids.specs.Context.{Context}
 use Rattle.object_clones.specs.declared.object.Edit.{Edit}
 use Rattle.object_clones.specs.declared.file.File.{File}
 use Rattle.object_clones.specs.declared.files.Files.{Files}
-use Rattle.object_clones.specs.Objects.{Plain, blank, plain, edited, purged}
+use Rattle.object_clones.specs.Listing.{noted}
+use Rattle.object_clones.specs.Objects.{Plain, IsLeft, blank, plain, edited, purged}
 use Rattle.object_clones.specs.Files.{object_in}
 use Rattle.object_clones.specs.Purged.{has_id}
 
@@ -60,3 +61,7 @@ object_among files ino index = object_or_blank (get nat_cmp files.files ino) ind
 -- the files as contracts of the store see them
 abbrev pub plain_files : Files → List (ℕ × List (ℕ × Plain))
 plain_files files = map (λ e. (e.0, plain_file e.1)) files.files.entries
+
+-- a purge of an id leaves each object that isn't noted for it
+abbrev pub Covers : Files → Type 0
+Covers files = (s : SnapId) (ino index : ℕ) → noted files.listing s ino index ≡ false → IsLeft s (object_among files ino index)

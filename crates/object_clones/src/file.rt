@@ -1,15 +1,18 @@
 // The objects of one file.
-ghost use Rattle.std.specs.Prelude.{◌≡◌, ◌≢◌, ◌+◌, ◌-◌, ◌*◌, ◌<◌, ◌≤◌, ◌^◌, ◌⊎◌, ◌++◌, ℕ, None, length, vec_len, slice_index, IsSome, IfOk, OnOk, OnErr};
+ghost use Rattle.std.specs.Prelude.{◌≡◌, ◌≢◌, ◌+◌, ◌-◌, ◌*◌, ◌<◌, ◌≤◌, ◌^◌, ◌⊎◌, ◌++◌, ◌==◌, ℕ, false, None, length, vec_len, slice_index, IsSome, if◌then◌else◌, IfOk, OnOk, OnErr};
 ghost use Rattle.std.specs.Ordering.{nat_cmp};
 ghost use Rattle.std.specs.BTreeMap.{get};
 ghost use Rattle.std.specs.Option.{option_map, option_copied};
 ghost use Rattle.object_log.specs.Bytes.{so_many};
 ghost use Rattle.object_clones.specs.Bytes.{or_empty};
 ghost use Rattle.object_clones.specs.Purged.{has};
-ghost use Rattle.object_clones.specs.Objects.{IsSmall, blank, change_of, changed, edited, head_after, next, purged, bytes_shown};
-ghost use Rattle.object_clones.specs.Files.{object_in, HasRoomAt, HasRooms, change_at, bytes_read};
+ghost use Rattle.snap_ids.specs.declared.id.SnapId.{SnapId};
+ghost use Rattle.object_clones.specs.Listing.{noted, Grows};
+ghost use Rattle.object_clones.specs.Objects.{IsSmall, IsLeft, blank, change_of, changed, edited, head_after, next, purged, bytes_shown};
+ghost use Rattle.object_clones.specs.Files.{object_in, HasRoomAt, HasRooms, CoversFile, change_at, bytes_read};
 
 use crate::extents::Extents;
+use crate::listing::Listing;
 use crate::object::{Change, Edit, Object};
 use crate::purged::Purged;
 use snap_ids::{NoMemory, SnapContext, SnapId};
@@ -169,14 +172,58 @@ impl File {
         }
     }
 
-    /// Carries an edit out under a context.
+    // Notes an object for the ids that the clone will list which a change leaves of it.
+    fn note(
+        &self,
+        alloc: Global,
+        ino: u64,
+        index: u32,
+        change: &Option<Change>,
+        listing: &mut Listing,
+    ) -> Result<(), NoMemory>
+        ensures grows { Grows listing.old listing.new }
+        ensures noted { OnOk result ((seq : ℕ) (s : SnapId) → noted listing.new s ino index ≡ false
+            → IsLeft s (object_in self.now index) → IsLeft s (changed seq (option_map next change.now) (object_in self.now index))) }
+    {
+        if let Some(change) = change
+            && let Some(object) = self.objects.get(&index)
+        {
+            listing.note_all(alloc, object.clone_ids(change), ino, index)?;
+        }
+        Ok(())
+    }
+
+    // The same of the objects from an index on.
+    fn note_all(
+        &self,
+        alloc: Global,
+        ino: u64,
+        first: u64,
+        changes: &[Option<Change>],
+        listing: &mut Listing,
+    ) -> Result<(), NoMemory>
+        requires bound { first + length changes.now ≤ 2 ^ 32 }
+        ensures grows { Grows listing.old listing.new }
+        ensures noted { OnOk result ((seq : ℕ) (s : SnapId) (k : ℕ) → noted listing.new s ino k ≡ false
+            → IsLeft s (object_in self.now k) → IsLeft s (changed seq (change_at first changes.now k) (object_in self.now k))) }
+    {
+        for at in 0..changes.len() {
+            let index = first + at as u64;
+            self.note(alloc, ino, index as u32, &changes[at], listing)?;
+        }
+        Ok(())
+    }
+
+    /// Carries an edit out under a context, and notes the objects that are cloned.
     pub(crate) fn edit(
         &mut self,
         alloc: Global,
         size: u32,
+        ino: u64,
         edit: Edit<'_>,
         context: &SnapContext,
         purged: &Purged,
+        listing: &mut Listing,
     ) -> Result<(), NoMemory>
         requires size { 0 < size }
         requires limit { size ≤ 65536 }
@@ -184,9 +231,12 @@ impl File {
         ensures ok { OnOk result ((k : ℕ) → object_in self.new k
             ≡ edited (has purged.now) (k * size) size edit.entry context.now (object_in self.old k)) }
         ensures err { OnErr result ((k : ℕ) → object_in self.new k ≡ object_in self.old k) }
+        ensures grows { Grows listing.old listing.new }
+        ensures covers { CoversFile listing.old ino self.old → CoversFile listing.new ino self.new }
     {
         let indexes = self.reach(size, edit);
         let changes = self.prepare_all(alloc, size, indexes, edit, context, purged)?;
+        self.note_all(alloc, ino, indexes.0, &changes, listing)?;
         self.settle_all(indexes.0, context.seq(), changes);
         Ok(())
     }
@@ -198,14 +248,14 @@ impl File {
         self.objects.get(&index)
     }
 
-    /// Takes a purged snapshot out of all lists.
-    pub(crate) fn purge(&mut self, s: SnapId)
-        ensures { (k : ℕ) → object_in self.new k ≡ purged s (object_in self.old k) }
+    /// Takes a purged snapshot out of the lists of one object.
+    pub(crate) fn purge(&mut self, index: u32, s: SnapId)
+        ensures { (k : ℕ) → object_in self.new k
+            ≡ (if k == index then purged s (object_in self.old k) else object_in self.old k) }
     {
-        self.objects.retain(|_, object| {
+        if let Some(object) = self.objects.get_mut(&index) {
             object.purge(s);
-            true
-        });
+        }
     }
 
     // The bytes of an object's head, or at a snapshot.

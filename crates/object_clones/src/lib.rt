@@ -5,6 +5,7 @@ mod error;
 mod extents;
 mod file;
 mod files;
+mod listing;
 mod object;
 mod purged;
 mod store;

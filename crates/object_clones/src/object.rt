@@ -1,10 +1,11 @@
 // An object: its head and its clones.
-ghost use Rattle.std.specs.Prelude.{◌≡◌, ◌+◌, ◌<◌, ◌^◌, ◌++◌, nat_le, None, Some, length, map, IfOk, OnOk};
+ghost use Rattle.std.specs.Prelude.{◌≡◌, ◌+◌, ◌<◌, ◌^◌, ◌++◌, ℕ, false, nat_le, None, Some, length, map, IfOk, OnOk};
 ghost use Rattle.std.specs.Option.{option_map, option_copied, option_to_list};
 ghost use Rattle.std.specs.List.{find};
+ghost use Rattle.snap_ids.specs.declared.id.SnapId.{SnapId};
 ghost use Rattle.snap_ids.specs.Context.{is_listed};
 ghost use Rattle.object_clones.specs.Purged.{has};
-ghost use Rattle.object_clones.specs.Objects.{IsSmall, plain, blank, news, head_written, head_cut, head_deleted, change_of, next, changed, purged, purged_clones, bytes_at_snap, list_of, kept, without, serves_some};
+ghost use Rattle.object_clones.specs.Objects.{IsSmall, IsLeft, plain, blank, news, head_written, head_cut, head_deleted, change_of, next, changed, purged, purged_clones, bytes_at_snap, list_of, kept, without, serves_some};
 
 use crate::extents::Extents;
 use crate::purged::Purged;
@@ -220,6 +221,18 @@ impl Object {
         };
         let ids = self.news(alloc, context, purged)?;
         Ok(Some(Change { ids, head }))
+    }
+
+    /// The ids that a change's clone of the head will list.
+    pub(crate) fn clone_ids<'a>(&self, change: &'a Change) -> &'a [SnapId]
+        ensures { (seq : ℕ) (s : SnapId) → is_listed s result.now ≡ false → IsLeft s (plain self.now)
+            → IsLeft s (changed seq (Some (next change.now)) (plain self.now)) }
+    {
+        if self.head.is_some() {
+            &change.ids
+        } else {
+            &[]
+        }
     }
 
     /// Makes room for one more clone.

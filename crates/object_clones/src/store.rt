@@ -29,13 +29,13 @@ pub struct ObjectStore {
 
 impl Model for ObjectStore {
     ghost use Rattle.std.specs.Prelude.{◌<◌, ◌≤◌};
-    ghost use Rattle.object_clones.specs.Store.{Shown, plain_files};
+    ghost use Rattle.object_clones.specs.Store.{Shown, Covers, plain_files};
 
     ghost Value = { Shown };
 
     ghost view = { λ s. record { size = s.size; files = plain_files s.files; purged = s.purged.ids.keys } };
 
-    ghost invariant = { λ s. (0 < s.size) × (s.size ≤ 65536) };
+    ghost invariant = { λ s. (0 < s.size) × (s.size ≤ 65536) × Covers s.files };
 }
 
 impl ObjectStore {

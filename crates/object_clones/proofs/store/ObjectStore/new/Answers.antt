@@ -7,5 +7,5 @@ use Rattle.object_clones.proofs.store.ObjectStore.new.Goals as goal
 pub returns : goal.returns
 returns c =
     let P : Shown → Type 0 = λ v. StandsFor v c.args.object [] in
-    subst P (sym (λ i. record { size = c.args.object; files = map (λ e. (e.0, plain_file e.1)) (c.new.ensures i); purged = c.new-2.ensures i }))
+    subst P (sym (λ i. record { size = c.args.object; files = map (λ e. (e.0, plain_file e.1)) (c.new.ensures.empty i); purged = c.new-2.ensures i }))
     (new_stands c.args.object (omega arith))

@@ -13,5 +13,5 @@ returns-clause-ok c =
     record {
       size = ap (λ (v : Shown). v.size) c.self.view_is;
       gone = λ q. c.in_ok-add.ensures.ok q ∙ ap (λ (v : Shown). eqb q.0 c.args.s.0 || has_id v.purged q) c.self.view_is;
-      objects = λ f k. object_at-plain_files c.purge.new.self s.size c.add.new.self.ids.keys f k ∙ c.purge.ensures f k ∙ ap (purged c.args.s) (was f k);
+      objects = λ f k. object_at-plain_files c.purge.new.self s.size c.add.new.self.ids.keys f k ∙ c.purge.ensures.objects f k ∙ ap (purged c.args.s) (was f k);
     }
