@@ -22,4 +22,6 @@ pub mod Promise
 pub mod Kept
 pub mod Contests
 pub mod Drops
+pub mod Orders
+pub mod Returns
 pub mod Nodes

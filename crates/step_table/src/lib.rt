@@ -5,7 +5,9 @@
 
 mod drops;
 mod examples;
+mod orders;
 mod promises;
+mod returns;
 mod runs;
 
 pub use drops::{
@@ -23,5 +25,15 @@ pub use examples::{
     a_writer_hears_of_a_snapshot_late, an_open_file_loses_its_name, the_first_entries_survive,
     the_notice_comes_first, two_readers_become_writers, two_snapshots_have_their_sizes,
 };
+pub use orders::{
+    a_barrier_waits_for_a_purge, a_dead_file_is_recalled, a_reader_isnt_told_of_a_snapshot,
+    a_recall_comes_once, a_removal_follows_its_path, a_snapshot_keeps_its_sizes,
+    snapshots_are_made_in_order, the_least_id_is_purged_first, who_asks_first_comes_first,
+};
 pub use promises::{cuts_are_closed, replies_are_plain};
+pub use returns::{
+    a_client_is_welcomed, a_client_waits_for_its_welcome, a_flush_counts_for_the_claim,
+    a_welcome_tells_of_snapshots, an_older_snapshot_isnt_owed, an_open_barrier_stays_open,
+    no_turn_before_all_are_back, what_was_lost_is_sent_again, who_comes_back_holds_its_files,
+};
 pub use runs::what_the_table_runs_is_legal;
