@@ -1,0 +1,6 @@
+pub mod Moments
+pub mod Stamps
+pub mod Links
+pub mod Requests
+pub mod Tables
+pub mod Plain

@@ -1,0 +1,42 @@
+-- What the server sends its clients, and the stamps in it.
+use Rattle.std.specs.Prelude.{◌≡◌, ◌≤◌, ℕ, List, [], ◌∷◌, length, take, filter_map, Option, None, Some}
+use Rattle.plain_types.specs.declared.entry.Entry.{Entry}
+use Rattle.plain_types.specs.declared.history.Event.{Event}
+use Rattle.plain_types.specs.declared.history.Sent.{Sent}
+use Rattle.plain_types.specs.declared.message.Message.{Message}
+use Rattle.plain_types.specs.declared.message.Message.TheVariants as message
+use Rattle.plain_types.specs.declared.message.ToClient.{ToClient}
+use Rattle.plain_tree.specs.History.{stamp_of}
+use Rattle.plain_journal.specs.Entries.{applied}
+use Rattle.step_table.specs.Legal.{sent_between}
+
+-- a message of the server to a client
+abbrev pub told_by : Message → Option ToClient
+told_by (message.ToClient told) = Some told
+told_by other = None
+
+-- those that a node sent in one step
+abbrev pub told_in : List Sent → List ToClient
+told_in sent = filter_map (λ (m : Sent). told_by m.message) sent
+
+-- all that the server sent to one client along a history, in order
+abbrev pub sent_to : ℕ → List Event → List ToClient
+sent_to client history = filter_map told_by (sent_between 0 client history)
+
+-- how many entries the journal had when the message was made
+abbrev pub entry_of : ToClient → ℕ
+entry_of told = (stamp_of told).entry
+
+-- from a number on, no number is below the one before it
+abbrev pub NeverFall : ℕ → List ℕ → Type 0
+NeverFall low [] = Unit {0}
+NeverFall low (n ∷ numbers) = (low ≤ n) × NeverFall n numbers
+
+-- The stamp is one of this journal: it counts no more entries than there are, and names the last snapshot that the first so
+-- many made.
+abbrev pub IsStampOf : List Entry → ToClient → Type 0
+IsStampOf entries told = (entry_of told ≤ length entries) × ((stamp_of told).snap.0 ≡ applied (take (entry_of told) entries))
+
+abbrev pub AllStampsOf : List Entry → List ToClient → Type 0
+AllStampsOf entries [] = Unit {0}
+AllStampsOf entries (told ∷ more) = IsStampOf entries told × AllStampsOf entries more

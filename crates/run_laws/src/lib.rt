@@ -1,0 +1,20 @@
+//! What is true along every run of the protocol: laws over its legal histories, without a program. The functions here have
+//! no body, and their contracts are the laws.
+#![tactic(auto)]
+
+mod journal;
+mod links;
+mod requests;
+mod stamps;
+mod steps;
+mod tables;
+
+pub use journal::the_journal_only_grows;
+pub use links::{connection_numbers_never_fall, links_are_in_order};
+pub use requests::{a_request_has_one_effect, what_is_asked_is_open};
+pub use stamps::{stamps_never_fall, what_is_told_is_durable};
+pub use steps::a_history_is_determined_by_its_steps;
+pub use tables::{
+    a_file_has_one_writer, ids_are_given_in_order, one_operation_at_a_time,
+    what_is_purged_was_removed,
+};

@@ -1,0 +1,21 @@
+// The stamps of what the server sends.
+ghost use Rattle.std.specs.Prelude.{◌≡◌, ◌++◌, ◌∷◌, [], ℕ, List, map};
+ghost use Rattle.plain_types.specs.declared.history.Event.{Event};
+ghost use Rattle.plain_types.specs.declared.script.Script.{Script};
+ghost use Rattle.step_table.specs.Legal.{Legal};
+ghost use Rattle.step_table.specs.World.{journal};
+ghost use Rattle.run_laws.specs.Moments.{world_after};
+ghost use Rattle.run_laws.specs.Stamps.{told_in, sent_to, entry_of, NeverFall, AllStampsOf};
+
+/// What the server tells a client is told in the order in which it was made: the numbers of entries that the messages are
+/// stamped with never fall.
+pub fn stamps_never_fall()
+    ensures { (script : Script) (history : List Event) → Legal history script → (client : ℕ)
+        → NeverFall 0 (map entry_of (sent_to client history)) }
+{}
+
+/// A message goes when the entries that it knows of are durable, not before: its stamp is one of the journal then.
+pub fn what_is_told_is_durable()
+    ensures { (script : Script) (history : List Event) (event : Event) → Legal (history ++ event ∷ []) script → event.node ≡ 0
+        → AllStampsOf (journal (world_after script (history ++ event ∷ []))) (told_in event.sent) }
+{}
