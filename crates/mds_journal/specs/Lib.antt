@@ -1,0 +1,4 @@
+pub mod Batches
+pub mod Stops
+pub mod Faults
+pub mod Log
