@@ -112,7 +112,11 @@ fn a_directory_lists_what_it_has_at_each_id(rt: HostRuntime) -> Result<(), Fail>
         let entries = tree.list(dir, id)?;
         let text = spelled(rt.alloc(), &entries)?;
         assert_eq!(rt; text.as_slice(), want, "{dir:?} at {id:?}");
-        assert_eq!(rt; tree.has_entries(dir, id), !want.is_empty(), "{dir:?} at {id:?}");
+        assert_eq!(rt;
+            tree.has_entries(dir, id),
+            !want.is_empty(),
+            "{dir:?} at {id:?}"
+        );
     }
     Ok(())
 }

@@ -15,7 +15,9 @@ ghost use Rattle.dentry_tree.specs.Answers.{IsRefusal, IsOfPut, file_answer, dir
 use crate::dentry::Dentry;
 use crate::error::TreeError;
 use crate::kinds::Kinds;
-use crate::places::{cut, find, found_at, has_some, listed, of_directory, place, put, trim, unneeded};
+use crate::places::{
+    cut, find, found_at, has_some, listed, of_directory, place, put, trim, unneeded,
+};
 use snap_ids::{Entries, Ids, Ino, Kind, NOSNAP, Name, Path, SnapId};
 use std::alloc::Global;
 use std::marker::Model;

@@ -4,4 +4,7 @@
 
 mod laws;
 
-pub use laws::{a_new_id_is_above_the_last_one, contexts_are_steady, ids_are_upto_the_last_one, most_entries_leave_contexts};
+pub use laws::{
+    a_new_id_is_above_the_last_one, contexts_are_steady, ids_are_upto_the_last_one,
+    most_entries_leave_contexts,
+};
