@@ -1,0 +1,9 @@
+pub mod Loops
+pub mod Values
+pub mod Changes
+pub mod Named
+pub mod Fronts
+pub mod Shown
+pub mod Infos
+pub mod Placed
+pub mod Conditions

@@ -1,0 +1,5 @@
+pub mod Tree
+pub mod Walks
+pub mod Refusals
+pub mod Names
+pub mod Realms
