@@ -1,5 +1,5 @@
 -- Births of both vocabularies.
-use Rattle.std.proofs.Common.{◌≡◌, ℕ, ◌+◌, ◌-◌, ◌<◌, ◌≤◌, List, [], ◌∷◌, ◌++◌, length, Bool, true, false, cond, not, ◌||◌, Option, None, Some, refl, sym, ap, ◌∙◌, subst, arith, map, filter, length-append}
+use Rattle.std.proofs.Common.{◌≡◌, ℕ, ◌+◌, ◌<◌, ◌≤◌, List, [], ◌∷◌, ◌++◌, length, Bool, true, false, cond, ◌||◌, Option, None, Some, refl, sym, ap, ◌∙◌, subst, arith, length-append}
 use Rattle.std.specs.List.{list_any}
 use Rattle.std.proofs.lemmas.List.{length-map}
 use Rattle.std.proofs.lemmas.List.Folds.{list_any-append}
@@ -12,17 +12,17 @@ use Rattle.plain_types.specs.declared.entry.Entry.{Entry}
 use Rattle.plain_types.specs.declared.entry.What.{What}
 use Rattle.plain_types.specs.declared.entry.What.TheVariants as what
 use Rattle.plain_tree.specs.State.{State, Inode, new_directory, next_ino, lookup}
-use Rattle.plain_tree.specs.Change.{is_refused, new_file, make, apply, with_mode}
-use Rattle.plain_journal.specs.Entries.{change_in, with_change, after_entry, state_after, applied}
+use Rattle.plain_tree.specs.Change.{is_refused, new_file, make, apply}
+use Rattle.plain_journal.specs.Entries.{change_in, with_change, state_after, applied}
 use Rattle.plain_journal.specs.Legal.{is_made_by, fits, is_legal, is_journal}
-use Rattle.realm_story.specs.Family.{Made, Member, Family, same_ino, member, is_member, birth_by, birth_of, is_in_global, way_up, move_to, moved, next_id, born, forget}
-use Rattle.realm_story.proofs.Facts.{both_of, same_of, same_sym, itself}
+use Rattle.realm_story.specs.Family.{Made, Family, same_ino, member, is_member, birth_by, birth_of, is_in_global, way_up, move_to, next_id, born, forget}
+use Rattle.realm_story.proofs.Facts.{both_of, same_of}
 use Rattle.journal_laws.proofs.Steps.{state_more, apply_made}
 use Rattle.journal_realms.specs.Above.{makes, before_made, birth_at}
 use Rattle.journal_realms.specs.Told.{move_found, forget_found, snap_of, drop_found, told, family_of}
 use Rattle.journal_realms.proofs.Family.{family_more}
 use Rattle.journal_realms.proofs.Members.{moved_is, moved_birth, global_is, global_birth, left_other, left_self}
-use Rattle.journal_realms.proofs.Tree.{bound_of, not_high}
+use Rattle.journal_realms.proofs.Tree.{bound_of}
 use Rattle.journal_realms.proofs.Kept.{IsNext, move_in, move_out, not_true}
 use Rattle.journal_realms.proofs.Trees.{tied_after, next_of}
 use Rattle.journal_realms.proofs.Last.{same_applied}

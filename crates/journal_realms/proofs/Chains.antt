@@ -1,14 +1,13 @@
 -- The chain of parents in a plain tree is the way up of the story.
-use Rattle.std.proofs.Common.{◌≡◌, ℕ, zero, suc, ◌+◌, ◌-◌, ◌<◌, ◌≤◌, List, [], ◌∷◌, length, Bool, true, false, cond, not, ◌||◌, ◌&&◌, Option, None, Some, ◌⊎◌, inl, inr, refl, sym, ap, ◌∙◌, subst, arith, map, filter}
+use Rattle.std.proofs.Common.{◌≡◌, ℕ, zero, suc, ◌≤◌, List, [], ◌∷◌, length, Bool, true, false, cond, not, ◌||◌, Option, None, Some, ◌⊎◌, inl, inr, refl, sym, ap, ◌∙◌, subst, arith, map}
 use Rattle.std.specs.List.{list_any}
 use Rattle.std.proofs.lemmas.List.{length-map}
 use Rattle.snap_ids.specs.declared.id.Ino.{Ino}
-use Rattle.snap_ids.specs.declared.id.TheConstants.{ROOT, STRAY, GLOBAL, FIRST_INO, FIRST_SNAP}
-use Rattle.snap_ids.specs.declared.values.Kind.TheVariants.{Dir, File}
-use Rattle.plain_tree.specs.State.{Entry, Inode, kind_in}
+use Rattle.snap_ids.specs.declared.id.TheConstants.{ROOT, FIRST_SNAP}
+use Rattle.plain_tree.specs.State.{Entry, Inode}
 use Rattle.plain_tree.specs.Walk.{leads_up}
 use Rattle.realm_story.specs.declared.records.Node.{Node}
-use Rattle.realm_story.specs.Family.{Member, same_ino, member, is_member, above_by, way_up, is_on, is_in_global}
+use Rattle.realm_story.specs.Family.{Member, same_ino, member, is_member, above_by, way_up, is_on}
 use Rattle.realm_story.specs.Family.{without as others}
 use Rattle.realm_story.specs.Stands.{Climbs, IsApart}
 use Rattle.realm_story.proofs.Facts.{same_of, same_sym, itself}

@@ -1,45 +1,43 @@
 -- The contexts of both vocabularies.
-use Rattle.std.proofs.Common.{◌≡◌, ℕ, ◌+◌, ◌<◌, ◌≤◌, List, [], ◌∷◌, ◌++◌, length, Bool, true, false, cond, not, ◌||◌, ◌&&◌, ◌==◌, max, Option, None, Some, ◌⊎◌, inl, inr, refl, sym, ap, ◌∙◌, subst, arith, map, filter, eqb, leb, reverse}
+use Rattle.std.proofs.Common.{◌≡◌, ℕ, ◌+◌, ◌<◌, ◌≤◌, List, [], ◌∷◌, ◌++◌, Bool, true, false, cond, not, ◌||◌, refl, sym, ap, ◌∙◌, subst, arith, map, filter, leb}
 use Rattle.std.proofs.lemmas.Bool.Decides.{nat_tests}
-use Rattle.std.specs.Prelude.{nat_le, nat_lt, fold, filter_map, if◌then◌else◌}
+use Rattle.std.specs.Prelude.{nat_le, if◌then◌else◌}
 use Rattle.std.specs.List.{list_any}
-use Rattle.std.proofs.lemmas.List.{append-nil, reverse-append}
+use Rattle.std.proofs.lemmas.List.{append-nil}
 use Rattle.std.proofs.lemmas.List.Folds.{list_any-append}
-use Rattle.std.proofs.lemmas.List.Sums.{fold-append}
 use Rattle.snap_ids.specs.declared.id.Ino.{Ino}
 use Rattle.snap_ids.specs.declared.id.SnapId.{SnapId}
 use Rattle.snap_ids.specs.declared.id.TheConstants.{ROOT, GLOBAL}
-use Rattle.snap_ids.specs.Context.{Context}
 use Rattle.plain_types.specs.declared.change.Change.{Change}
 use Rattle.plain_types.specs.declared.change.Change.TheVariants as change
 use Rattle.plain_types.specs.declared.entry.Entry.{Entry}
 use Rattle.plain_types.specs.declared.entry.What.{What}
 use Rattle.plain_types.specs.declared.entry.What.TheVariants as what
-use Rattle.plain_tree.specs.State.{State, Inode, new_directory, lookup}
+use Rattle.plain_tree.specs.State.{State, Inode, new_directory}
 use Rattle.plain_tree.specs.State.{start as empty}
 use Rattle.plain_tree.specs.Walk.{is_under}
 use Rattle.plain_tree.specs.Change.{is_refused, new_file, with_mode, make, apply}
-use Rattle.plain_journal.specs.Entries.{change_in, with_change, after_entry, state_after}
-use Rattle.plain_journal.specs.Coverage.{is_global, is_made, made_by, made_since, made_over}
+use Rattle.plain_journal.specs.Entries.{change_in, with_change, state_after}
+use Rattle.plain_journal.specs.Coverage.{is_made, made_by, made_since, made_over}
 use Rattle.plain_journal.specs.Legal.{is_made_by, fits, is_legal, is_journal}
-use Rattle.realm_story.specs.Family.{Made, Member, Family, same_ino, member, is_member, above_by, is_on, is_in_global, birth_of, inodes}
+use Rattle.realm_story.specs.Family.{Made, Family, same_ino, member, is_member, above_by, is_on, is_in_global, birth_of, inodes}
 use Rattle.realm_story.specs.Family.{is_under as is_under_told}
-use Rattle.realm_story.specs.Stands.{FallBelow, Each}
-use Rattle.realm_story.proofs.Facts.{both_of, same_of, same_sym, itself}
+use Rattle.realm_story.specs.Stands.{FallBelow}
+use Rattle.realm_story.proofs.Facts.{both_of}
 use Rattle.realm_story.proofs.Same.{or_first, or_second}
 use Rattle.journal_laws.proofs.Steady.{over_more, since_more}
 use Rattle.journal_laws.proofs.Steps.{state_more, apply_made}
 use Rattle.journal_realms.specs.Above.{makes}
 use Rattle.journal_realms.specs.Told.{told, family_of}
 use Rattle.journal_realms.proofs.Family.{family_more}
-use Rattle.journal_realms.proofs.Tree.{IsTree, IsFolder, less_apart}
+use Rattle.journal_realms.proofs.Tree.{less_apart}
 use Rattle.journal_realms.proofs.Kept.{not_true}
 use Rattle.journal_realms.proofs.Trees.{tied_after}
 use Rattle.journal_realms.proofs.Births.{bound, was_born, born_below, makes_next, same_birth, now_born}
 use Rattle.journal_realms.proofs.Globals.{links, inside_more}
 use Rattle.journal_realms.proofs.Snaps.{Remarks, above_last, basic_after}
-use Rattle.journal_realms.proofs.Covered.{Marks, is_snap, told_marks, on_filter, under_same, snap_folder, Covers, covers_after}
-use Rattle.journal_realms.proofs.Induct.{legal_more, of_each}
+use Rattle.journal_realms.proofs.Covered.{is_snap, told_marks, on_filter, under_same, snap_folder, covers_after}
+use Rattle.journal_realms.proofs.Induct.{of_each}
 
 -- the ids of some snapshots in the order in which they were made
 abbrev pub rev_ids : List Made → List SnapId

@@ -1,5 +1,5 @@
 -- Which inodes a snapshot of the story covers.
-use Rattle.std.proofs.Common.{◌≡◌, ℕ, ◌+◌, ◌<◌, ◌≤◌, List, [], ◌∷◌, ◌++◌, length, Bool, true, false, cond, not, ◌||◌, ◌&&◌, ◌==◌, Option, None, Some, ◌⊎◌, inl, inr, refl, sym, ap, ◌∙◌, subst, arith, map, filter, eqb, leb}
+use Rattle.std.proofs.Common.{◌≡◌, ℕ, ◌+◌, ◌<◌, ◌≤◌, List, [], ◌∷◌, ◌++◌, length, Bool, true, false, cond, ◌||◌, ◌&&◌, Option, None, Some, ◌⊎◌, inl, inr, refl, sym, ap, ◌∙◌, subst, arith, map, filter, eqb}
 use Rattle.std.proofs.lemmas.Bool.Decides.{nat_tests}
 use Rattle.std.proofs.lemmas.List.{map-id}
 use Rattle.snap_ids.specs.declared.id.Ino.{Ino}
@@ -16,10 +16,10 @@ use Rattle.plain_tree.specs.Walk.{leads_up}
 use Rattle.plain_tree.specs.Change.{is_directory, is_free_snap, is_refused}
 use Rattle.plain_journal.specs.Entries.{change_in, state_after, applied_by}
 use Rattle.plain_journal.specs.Legal.{is_made_by, fits, is_legal, is_journal}
-use Rattle.realm_story.specs.Family.{Made, Member, Family, same_ino, member, is_member, above_by, way_up, is_on, is_root, is_under, is_in_global, birth_by, birth_of, next_id, inodes, add_snap}
+use Rattle.realm_story.specs.Family.{Made, Member, Family, same_ino, member, is_member, way_up, is_on, is_under, is_in_global, birth_by, birth_of, inodes}
 use Rattle.realm_story.specs.Stands.{FallBelow, Each}
-use Rattle.realm_story.proofs.Facts.{both_of, same_of, same_sym, itself}
-use Rattle.realm_story.proofs.Same.{or_first, or_second, each_weaker, each_both}
+use Rattle.realm_story.proofs.Facts.{both_of, same_of, same_sym}
+use Rattle.realm_story.proofs.Same.{each_weaker}
 use Rattle.journal_realms.specs.Above.{parents, makes}
 use Rattle.journal_realms.specs.Told.{snap_of, drop_found, told, family_of}
 use Rattle.journal_realms.proofs.Family.{family_more, told_applied}
@@ -28,7 +28,7 @@ use Rattle.journal_realms.proofs.Chains.{top_unnamed, folder_chain, leads_on, le
 use Rattle.journal_realms.proofs.Kept.{not_true, not_false, folder_of}
 use Rattle.journal_realms.proofs.Trees.{tied_after}
 use Rattle.journal_realms.proofs.Births.{bound, bound_more, makes_next, same_birth, now_born}
-use Rattle.journal_realms.proofs.Snaps.{Remarks, leaves_snaps, told_snaps, each_map, purged_one, dropped_one, purged_remarks, dropped_remarks, above_last, basic_after}
+use Rattle.journal_realms.proofs.Snaps.{Remarks, told_snaps, each_map, purged_one, dropped_one, purged_remarks, dropped_remarks, above_last, basic_after}
 use Rattle.journal_realms.proofs.Induct.{legal_more, of_each}
 
 -- the entry makes a snapshot

@@ -1,5 +1,5 @@
 -- The story that the entries of a journal tell, one entry after another.
-use Rattle.std.proofs.Common.{◌≡◌, ℕ, List, [], ◌∷◌, ◌++◌, Bool, true, false, cond, Option, None, Some, refl, sym, ap, ◌∙◌, subst}
+use Rattle.std.proofs.Common.{◌≡◌, List, [], ◌∷◌, ◌++◌, Bool, true, false, cond, Option, None, Some, refl, ap}
 use Rattle.std.specs.Prelude.{fold}
 use Rattle.std.proofs.lemmas.List.Sums.{fold-append}
 use Rattle.snap_ids.specs.declared.id.Ino.{Ino}
@@ -10,7 +10,7 @@ use Rattle.plain_types.specs.declared.entry.What.TheVariants as what
 use Rattle.plain_tree.specs.State.{State, lookup}
 use Rattle.plain_tree.specs.State.{start as empty}
 use Rattle.plain_journal.specs.Entries.{after_entry, state_after, applied_by, applied}
-use Rattle.realm_story.specs.Family.{Made, Family, start, is_in_global, move_to, leaves_realm}
+use Rattle.realm_story.specs.Family.{Made, Family, start, is_in_global, move_to}
 use Rattle.journal_realms.specs.Told.{move_found, forget_found, snap_of, drop_found, told, told_from, family_of}
 
 -- one more entry at the end

@@ -1,24 +1,23 @@
 -- The files that ever had two names at once are those in the global realm.
-use Rattle.std.proofs.Common.{◌≡◌, ℕ, ◌+◌, ◌<◌, ◌≤◌, List, [], ◌∷◌, ◌++◌, length, Bool, true, false, cond, not, ◌||◌, ◌&&◌, Option, None, Some, refl, sym, ap, ◌∙◌, subst, arith, map, filter, ltb}
+use Rattle.std.proofs.Common.{◌≡◌, ℕ, ◌≤◌, List, [], ◌∷◌, ◌++◌, length, Bool, true, false, not, ◌||◌, ◌&&◌, Option, None, Some, refl, sym, ap, ◌∙◌, arith, ltb}
 use Rattle.std.proofs.lemmas.Bool.Decides.{nat_tests}
-use Rattle.std.specs.Prelude.{nat_lt, fold}
+use Rattle.std.specs.Prelude.{fold}
 use Rattle.std.specs.List.{list_any}
 use Rattle.snap_ids.specs.declared.id.Ino.{Ino}
 use Rattle.snap_ids.specs.declared.id.TheConstants.{ROOT, STRAY, GLOBAL}
-use Rattle.snap_ids.specs.declared.values.Kind.TheVariants.{Dir, File}
-use Rattle.plain_types.specs.declared.change.Change.{Change}
+use Rattle.snap_ids.specs.declared.values.Kind.TheVariants.{File}
 use Rattle.plain_types.specs.declared.change.Change.TheVariants as change
 use Rattle.plain_types.specs.declared.entry.Entry.{Entry}
 use Rattle.plain_types.specs.declared.entry.What.{What}
 use Rattle.plain_types.specs.declared.entry.What.TheVariants as what
 use Rattle.plain_tree.specs.State.{State, new_directory, next_ino, add, lookup, kind_in, is_there}
 use Rattle.plain_tree.specs.State.{Entry as Dentry, start as empty}
-use Rattle.plain_tree.specs.Change.{is_directory, is_file, is_free, is_own, is_refused, is_removable, is_movable, names_one, new_file, entry, make, apply}
+use Rattle.plain_tree.specs.Change.{is_directory, is_file, is_free, is_own, is_refused, is_removable, is_movable, names_one, entry, make}
 use Rattle.plain_journal.specs.Entries.{change_in, with_change, after_entry, state_after}
 use Rattle.plain_journal.specs.Coverage.{has_two_names, gets_two_names, is_global}
 use Rattle.plain_journal.specs.Legal.{is_made_by, fits, is_legal, is_journal}
 use Rattle.realm_story.specs.Family.{Made, Member, Family, same_ino, member, is_member, above_by, way_up, is_on, is_in_global, move_to, next_id, born, forget}
-use Rattle.realm_story.proofs.Facts.{both_of, same_of, same_sym, itself}
+use Rattle.realm_story.proofs.Facts.{both_of, same_of, itself}
 use Rattle.journal_laws.proofs.Named.{count, one_if, count_add}
 use Rattle.journal_laws.proofs.Steps.{state_more, apply_made}
 use Rattle.journal_realms.specs.Above.{parents}
@@ -30,7 +29,7 @@ use Rattle.journal_realms.proofs.Tree.{IsTree, IsFolder, above_none, not_low, fo
 use Rattle.journal_realms.proofs.Grown.{fresh, global_other_one, global_new, inside_now, inside_same}
 use Rattle.journal_realms.proofs.Shifted.{shifted_global}
 use Rattle.journal_realms.proofs.Kept.{IsNext, move_in, move_out, not_true, not_false, file_is, free_of, folder_of, found_member, some_member, any_named}
-use Rattle.journal_realms.proofs.Trees.{Tied, tied_after, tied_step, next_of}
+use Rattle.journal_realms.proofs.Trees.{tied_after, tied_step, next_of}
 use Rattle.journal_realms.proofs.Induct.{of_each}
 
 -- the entry gives a further name to a file

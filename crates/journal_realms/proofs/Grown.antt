@@ -1,11 +1,10 @@
 -- The ways up after an inode was made, or got a second name.
-use Rattle.std.proofs.Common.{◌≡◌, ℕ, zero, suc, ◌+◌, ◌-◌, ◌<◌, ◌≤◌, List, [], ◌∷◌, ◌++◌, length, Bool, true, false, cond, not, ◌||◌, ◌&&◌, Option, None, Some, ◌⊎◌, inl, inr, refl, sym, ap, ◌∙◌, subst, arith, map, filter, length-append}
+use Rattle.std.proofs.Common.{◌≡◌, ℕ, ◌+◌, ◌<◌, ◌≤◌, List, [], ◌∷◌, ◌++◌, length, Bool, true, false, ◌||◌, None, refl, sym, ap, ◌∙◌, subst, arith, map, length-append}
 use Rattle.std.specs.List.{list_any}
 use Rattle.std.proofs.lemmas.List.Folds.{list_any-append}
 use Rattle.snap_ids.specs.declared.id.Ino.{Ino}
 use Rattle.snap_ids.specs.declared.id.SnapId.{SnapId}
-use Rattle.snap_ids.specs.declared.id.TheConstants.{ROOT, STRAY, GLOBAL, FIRST_INO}
-use Rattle.snap_ids.specs.declared.values.Kind.{Kind}
+use Rattle.snap_ids.specs.declared.id.TheConstants.{ROOT, GLOBAL, FIRST_INO}
 use Rattle.snap_ids.specs.declared.values.Kind.TheVariants.{Dir, File}
 use Rattle.plain_tree.specs.State.{Entry, Inode, kind_in, lookup, add}
 use Rattle.plain_tree.specs.Change.{entry}
@@ -14,7 +13,7 @@ use Rattle.realm_story.proofs.Facts.{same_of, same_sym, itself}
 use Rattle.journal_realms.specs.Above.{parents}
 use Rattle.journal_realms.proofs.Parents.{once_add, parents_add_other, parents_add_first}
 use Rattle.journal_realms.proofs.Members.{global_is, global_other, global_self}
-use Rattle.journal_realms.proofs.Tree.{IsTree, IsFolder, is_folder, HeadIs, head_dirs, dirs_weaker, dirs_add, above_of, above_same, bound_of, less_apart, kind_push, not_low, not_high, above_none, folder_outside, folder_below, folder_no_file}
+use Rattle.journal_realms.proofs.Tree.{IsTree, IsFolder, is_folder, HeadIs, head_dirs, dirs_weaker, dirs_add, above_of, above_same, bound_of, less_apart, kind_push, not_high, folder_outside, folder_below, folder_no_file}
 
 -- an inode is made
 module _ (entries : List Entry) (inodes : List Inode) (members : List Member) (tree : IsTree entries inodes members) (dir : Ino) (name : List ℕ) (node : Inode) (birth : SnapId) (number : node.ino.0 ≡ bound_of inodes) (folder : IsFolder inodes members dir) (free : lookup entries dir name ≡ None) where

@@ -1,9 +1,7 @@
 -- Files that were made and directories that are there are members of the story.
-use Rattle.std.proofs.Common.{◌≡◌, ℕ, List, [], ◌∷◌, Bool, true, false, cond, ◌⊎◌, inl, inr, refl, sym, ap, ◌∙◌}
+use Rattle.std.proofs.Common.{◌≡◌, List, Bool, true, false, cond, ◌⊎◌, inl, inr, refl, sym, ap, ◌∙◌}
 use Rattle.snap_ids.specs.declared.id.Ino.{Ino}
 use Rattle.snap_ids.specs.declared.id.TheConstants.{ROOT}
-use Rattle.snap_ids.specs.declared.values.Kind.{Kind}
-use Rattle.snap_ids.specs.declared.values.Kind.TheVariants.{Dir, File}
 use Rattle.plain_types.specs.declared.entry.Entry.{Entry}
 use Rattle.plain_tree.specs.State.{kind_in}
 use Rattle.plain_tree.specs.Change.{is_directory}
@@ -17,7 +15,6 @@ use Rattle.journal_realms.proofs.Tree.{of_folder}
 use Rattle.journal_realms.proofs.Kept.{file_is, folder_of}
 use Rattle.journal_realms.proofs.Trees.{tied_after}
 use Rattle.journal_realms.proofs.Births.{births_of}
-use Rattle.realm_story.proofs.Facts.{itself}
 
 pub held_member : (entries : List Entry) → is_journal entries ≡ true → (x : Ino) → is_held (state_after entries) x ≡ true → (x ≡ ROOT) ⊎ (is_member (member (family_of entries).members x) ≡ true)
 held_member entries legal x held = go (is_made_file (state_after entries) x) refl held

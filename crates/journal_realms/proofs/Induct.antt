@@ -1,7 +1,6 @@
 -- What is kept by each entry that follows a journal.
-use Rattle.std.proofs.Common.{◌≡◌, List, [], ◌∷◌, ◌++◌, Bool, true, false, refl, sym, ap, ◌∙◌, subst, append_assoc}
+use Rattle.std.proofs.Common.{◌≡◌, List, [], ◌∷◌, ◌++◌, true, refl, sym, subst, append_assoc}
 use Rattle.std.proofs.lemmas.List.{append-nil}
-use Rattle.std.specs.Prelude.{◌&&◌}
 use Rattle.plain_types.specs.declared.entry.Entry.{Entry}
 use Rattle.plain_journal.specs.Legal.{is_legal, legal_after, is_journal}
 use Rattle.realm_story.proofs.Facts.{both_of}

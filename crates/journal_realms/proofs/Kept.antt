@@ -1,12 +1,10 @@
 -- Each entry of a journal keeps the ways of the story tied to the names of the plain tree.
-use Rattle.std.proofs.Common.{◌≡◌, ℕ, ◌+◌, ◌-◌, ◌<◌, ◌≤◌, List, [], ◌∷◌, ◌++◌, length, Bool, true, false, cond, not, ◌||◌, ◌&&◌, Option, None, Some, refl, sym, ap, ◌∙◌, subst, arith, map, filter}
+use Rattle.std.proofs.Common.{◌≡◌, ℕ, ◌≤◌, List, [], ◌∷◌, length, Bool, true, false, cond, not, ◌||◌, ◌&&◌, Option, None, Some, refl, sym, ap, ◌∙◌, subst, arith, map}
 use Rattle.std.specs.Prelude.{is_some, if◌then◌else◌}
 use Rattle.std.specs.List.{list_any}
 use Rattle.std.proofs.lemmas.List.{length-map}
-use Rattle.std.proofs.lemmas.Bool.{eqb-true}
 use Rattle.snap_ids.specs.declared.id.Ino.{Ino}
-use Rattle.snap_ids.specs.declared.id.SnapId.{SnapId}
-use Rattle.snap_ids.specs.declared.id.TheConstants.{ROOT, STRAY, GLOBAL, FIRST_INO}
+use Rattle.snap_ids.specs.declared.id.TheConstants.{ROOT, STRAY, GLOBAL}
 use Rattle.snap_ids.specs.declared.values.Kind.{Kind}
 use Rattle.snap_ids.specs.declared.values.Kind.TheVariants.{Dir, File}
 use Rattle.snap_ids.specs.Name.{is_new}
@@ -14,19 +12,19 @@ use Rattle.plain_types.specs.declared.change.Change.{Change}
 use Rattle.plain_types.specs.declared.change.Change.TheVariants as change
 use Rattle.plain_types.specs.declared.entry.What.{What}
 use Rattle.plain_types.specs.declared.entry.What.TheVariants as what
-use Rattle.plain_tree.specs.State.{State, Entry, Inode, Snapshot, new_directory, next_ino, is_there, kind_in, lookup, add}
+use Rattle.plain_tree.specs.State.{State, Entry, Inode, new_directory, next_ino, is_there, kind_in, lookup, add}
 use Rattle.plain_tree.specs.Walk.{is_under}
 use Rattle.plain_tree.specs.Change.{is_directory, is_file, is_free, is_own, is_refused, is_removable, is_movable, names_one, new_file, entry, without, renamed, with_mode, make, apply}
 use Rattle.plain_journal.specs.Entries.{change_in, with_change}
 use Rattle.plain_journal.specs.Legal.{is_made_by}
-use Rattle.realm_story.specs.Family.{Made, Member, Family, same_ino, member, is_member, above_by, way_up, is_on, is_in_global, move_to, moved, leaves_realm, next_id, forget}
-use Rattle.realm_story.proofs.Facts.{both_of, same_of, same_sym, itself}
-use Rattle.journal_laws.proofs.Named.{count, count_taken}
+use Rattle.realm_story.specs.Family.{Made, Member, Family, same_ino, member, is_member, way_up, is_on, is_in_global, move_to, moved, leaves_realm, next_id}
+use Rattle.realm_story.proofs.Facts.{both_of, same_sym, itself}
+use Rattle.journal_laws.proofs.Named.{count_taken}
 use Rattle.journal_laws.proofs.Steps.{apply_made}
 use Rattle.journal_realms.specs.Above.{parents}
 use Rattle.journal_realms.specs.Told.{move_found, forget_found, snap_of, drop_found, told}
 use Rattle.journal_realms.proofs.Parents.{parents_more, parents_add_other, parents_add_first, parents_without, parents_gone, length_parents, all_at, once_add, once_without, lookup_without}
-use Rattle.journal_realms.proofs.Tree.{IsTree, IsFolder, is_folder, AllDirs, HeadIs, dirs_weaker, dirs_add, dirs_without, bound_of, less_apart, not_low, above_none, folder_outside}
+use Rattle.journal_realms.proofs.Tree.{IsTree, IsFolder, AllDirs, dirs_weaker, dirs_add, dirs_without, less_apart, not_low, above_none, folder_outside}
 use Rattle.journal_realms.proofs.Grown.{tree_grown, tree_linked}
 use Rattle.journal_realms.proofs.Shifted.{Renames, tree_global, tree_shifted, tree_left}
 use Rattle.journal_realms.proofs.Chains.{folder_under}

@@ -1,7 +1,9 @@
 pub mod Births
+pub mod Calls
 pub mod Chains
 pub mod Contexts
 pub mod Covered
+pub mod Dead
 pub mod Family
 pub mod Globals
 pub mod Grown

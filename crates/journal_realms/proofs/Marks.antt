@@ -1,5 +1,5 @@
 -- Realms begin at the same inodes in both vocabularies.
-use Rattle.std.proofs.Common.{◌≡◌, ℕ, ◌+◌, ◌<◌, ◌≤◌, List, [], ◌∷◌, ◌++◌, length, Bool, true, false, cond, not, ◌||◌, ◌&&◌, Option, None, Some, ◌⊎◌, inl, inr, refl, sym, ap, ◌∙◌, subst, arith, map, filter, ltb, leb}
+use Rattle.std.proofs.Common.{◌≡◌, ℕ, ◌≤◌, List, [], ◌∷◌, ◌++◌, Bool, true, false, cond, not, ◌||◌, ◌&&◌, Option, None, Some, ◌⊎◌, inl, inr, refl, sym, ap, ◌∙◌, subst, arith, ltb, leb}
 use Rattle.std.proofs.lemmas.Bool.Decides.{nat_tests}
 use Rattle.std.specs.Prelude.{nat_lt, nat_le, fold, if◌then◌else◌}
 use Rattle.std.specs.List.{list_any}
@@ -9,30 +9,29 @@ use Rattle.plain_types.specs.declared.change.Change.TheVariants as change
 use Rattle.plain_types.specs.declared.entry.Entry.{Entry}
 use Rattle.plain_types.specs.declared.entry.What.{What}
 use Rattle.plain_types.specs.declared.entry.What.TheVariants as what
-use Rattle.plain_tree.specs.State.{State, lookup, kind_in}
+use Rattle.plain_tree.specs.State.{State, lookup}
 use Rattle.plain_tree.specs.State.{start as empty}
-use Rattle.plain_tree.specs.Change.{is_directory, is_file, is_free, is_free_snap, is_refused, is_removable, is_movable, names_one, own_snap, has_all_snaps, are_all_live}
+use Rattle.plain_tree.specs.Change.{is_directory, is_file, is_free, is_free_snap, is_refused, is_movable, names_one}
 use Rattle.snap_ids.specs.Name.{is_new_snap}
 use Rattle.plain_journal.specs.Entries.{change_in, after_entry, state_after}
 use Rattle.plain_journal.specs.Coverage.{has_two_names, is_global}
-use Rattle.plain_journal.specs.Realms.{begins_realm, realm_in, moved, strayed, mark_by, marks_from, marks, realm_at}
+use Rattle.plain_journal.specs.Realms.{realm_in, moved, strayed, mark_by, marks_from, marks, realm_at}
 use Rattle.plain_journal.specs.Legal.{is_made_by, fits, is_legal, is_journal}
-use Rattle.realm_story.specs.Family.{Made, Member, Family, same_ino, member, is_member, above_by, way_up, is_on, is_root, is_in_global, is_marked, realm_of, leaves, leaves_realm, move_to, without, forget}
+use Rattle.realm_story.specs.Family.{Made, Family, same_ino, member, is_member, above_by, way_up, is_on, is_root, is_in_global, is_marked, realm_of, leaves, leaves_realm, move_to, without, forget}
 use Rattle.realm_story.specs.Family.{nearest as nearest_told}
-use Rattle.realm_story.proofs.Facts.{both_of, same_of, same_sym, itself}
+use Rattle.realm_story.proofs.Facts.{both_of, same_of, same_sym}
 use Rattle.realm_story.proofs.Same.{or_first, or_second}
 use Rattle.journal_laws.proofs.Named.{count}
-use Rattle.journal_laws.proofs.Steps.{state_more}
-use Rattle.journal_realms.specs.Above.{parents, makes, is_held}
+use Rattle.journal_realms.specs.Above.{makes, is_held}
 use Rattle.journal_realms.specs.Told.{move_found, forget_found, snap_of, drop_found, told, family_of}
 use Rattle.journal_realms.proofs.Family.{family_more}
 use Rattle.journal_realms.proofs.Parents.{length_parents}
 use Rattle.journal_realms.proofs.Members.{left_self}
 use Rattle.journal_realms.proofs.Tree.{IsTree, IsFolder, HeadIs, head_dirs, above_of, bound_of, less_apart, not_low, above_none, root_outside, folder_below}
-use Rattle.journal_realms.proofs.Kept.{IsNext, move_in, move_out, not_true, not_false, free_of, folder_of, found_member}
-use Rattle.journal_realms.proofs.Trees.{tied_after, next_of}
+use Rattle.journal_realms.proofs.Kept.{move_in, move_out, not_true, not_false, free_of, folder_of, found_member}
+use Rattle.journal_realms.proofs.Trees.{tied_after}
 use Rattle.journal_realms.proofs.Births.{bound, bound_more, makes_next, same_birth}
-use Rattle.journal_realms.proofs.Globals.{links, linked_member, global_step, inside_more, same_global}
+use Rattle.journal_realms.proofs.Globals.{links, linked_member, inside_more, same_global}
 use Rattle.journal_realms.proofs.Realms.{parent_found, Agree, folder_realm, stray_realm, member_realm}
 use Rattle.journal_realms.proofs.Held.{held_member}
 use Rattle.journal_realms.proofs.Induct.{legal_more, of_each}

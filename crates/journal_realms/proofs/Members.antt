@@ -1,10 +1,9 @@
 -- The members of a story after one of them was moved, went to the global realm, or is there no more.
-use Rattle.std.proofs.Common.{◌≡◌, ℕ, Bool, true, false, cond, not, ◌||◌, List, [], ◌∷◌, Option, None, Some, refl, sym, ap, ◌∙◌, map, filter}
+use Rattle.std.proofs.Common.{◌≡◌, Bool, true, false, cond, not, ◌||◌, List, [], ◌∷◌, Option, None, Some, refl, sym, ap, ◌∙◌, map, filter}
 use Rattle.snap_ids.specs.declared.id.Ino.{Ino}
-use Rattle.snap_ids.specs.declared.id.SnapId.{SnapId}
 use Rattle.snap_ids.specs.declared.id.TheConstants.{GLOBAL}
 use Rattle.realm_story.specs.Family.{Member, same_ino, member, is_member, above_by, birth_by, is_on, way_moved, moved, made_global}
-use Rattle.realm_story.proofs.Facts.{same_of, same_sym, itself}
+use Rattle.realm_story.proofs.Facts.{same_of, same_sym}
 
 -- what is found under a number has that number
 pub found_is : (y : Ino) (members : List Member) (m : Member) → member members y ≡ Some m → same_ino m.ino y ≡ true

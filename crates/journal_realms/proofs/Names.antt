@@ -1,7 +1,6 @@
 -- The names that a directory shows, and the ids with a name, of both vocabularies.
-use Rattle.std.proofs.Common.{◌≡◌, ℕ, ◌+◌, ◌<◌, ◌≤◌, List, [], ◌∷◌, ◌++◌, Bool, true, false, cond, not, ◌||◌, ◌&&◌, ◌==◌, refl, sym, ap, ◌∙◌, subst, arith, map, filter, eqb, reverse}
+use Rattle.std.proofs.Common.{◌≡◌, ℕ, ◌+◌, ◌<◌, ◌≤◌, List, [], ◌∷◌, ◌++◌, Bool, true, false, cond, ◌||◌, ◌&&◌, ◌==◌, refl, sym, ap, ◌∙◌, arith, map, filter, eqb, reverse}
 use Rattle.std.proofs.lemmas.Bool.Decides.{nat_tests}
-use Rattle.std.specs.Prelude.{if◌then◌else◌}
 use Rattle.std.specs.List.{list_any}
 use Rattle.std.proofs.lemmas.List.{append-nil, map-append, reverse-append}
 use Rattle.std.proofs.lemmas.List.Folds.{list_any-append}
@@ -15,7 +14,7 @@ use Rattle.plain_journal.specs.Entries.{state_after}
 use Rattle.plain_journal.specs.Coverage.{covering}
 use Rattle.plain_journal.specs.Realms.{name_shown, shown}
 use Rattle.plain_journal.specs.Legal.{is_journal}
-use Rattle.realm_story.specs.Family.{Made, Family, same_ino, covers, ids_of, live_ids}
+use Rattle.realm_story.specs.Family.{Made, same_ino, covers, ids_of, live_ids}
 use Rattle.realm_story.specs.Family.{covering as covering_told, name_shown as name_told, shown as shown_told}
 use Rattle.realm_story.specs.Stands.{FallBelow, Each}
 use Rattle.realm_story.proofs.Facts.{id_itself}

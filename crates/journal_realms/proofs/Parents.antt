@@ -1,5 +1,5 @@
 -- The directories that have a name for an inode, after one name more or less.
-use Rattle.std.proofs.Common.{◌≡◌, ℕ, zero, suc, ◌+◌, ◌≤◌, List, [], ◌∷◌, length, Bool, true, false, cond, not, ◌||◌, ◌&&◌, ◌==◌, Option, None, Some, refl, sym, ap, ◌∙◌, subst, arith, map, filter}
+use Rattle.std.proofs.Common.{◌≡◌, ℕ, ◌≤◌, List, [], ◌∷◌, length, Bool, true, false, cond, not, ◌||◌, None, Some, refl, sym, ap, ◌∙◌, arith, map}
 use Rattle.std.specs.Prelude.{if◌then◌else◌, bytes_eq}
 use Rattle.std.specs.List.{list_any}
 use Rattle.std.specs.Cmp.Lexicographic.{bytes_decides}
@@ -7,7 +7,7 @@ use Rattle.std.proofs.lemmas.List.{length-map, nil_from_length}
 use Rattle.snap_ids.specs.declared.id.Ino.{Ino}
 use Rattle.plain_tree.specs.State.{Entry, same_ino, lookup, is_at, add, precedes}
 use Rattle.plain_tree.specs.Walk.{names_of}
-use Rattle.plain_tree.specs.Change.{entry, without}
+use Rattle.plain_tree.specs.Change.{without}
 use Rattle.journal_laws.proofs.Named.{count, count_taken}
 use Rattle.realm_story.proofs.Facts.{both_of, same_of, itself}
 use Rattle.journal_realms.specs.Above.{parents}

@@ -1,18 +1,15 @@
 -- The realm of an inode in both vocabularies.
-use Rattle.std.proofs.Common.{◌≡◌, ℕ, zero, suc, ◌+◌, ◌<◌, ◌≤◌, List, [], ◌∷◌, ◌++◌, length, Bool, true, false, cond, not, ◌||◌, ◌&&◌, Option, None, Some, ◌⊎◌, inl, inr, refl, sym, ap, ◌∙◌, subst, arith, map, filter, ltb, leb}
-use Rattle.std.proofs.lemmas.Bool.Decides.{nat_tests}
-use Rattle.std.specs.Prelude.{nat_lt, nat_le, if◌then◌else◌}
-use Rattle.std.specs.List.{list_any}
+use Rattle.std.proofs.Common.{◌≡◌, ℕ, zero, suc, ◌<◌, ◌≤◌, List, [], ◌∷◌, length, Bool, true, false, cond, Some, ◌⊎◌, inl, inr, refl, sym, ap, ◌∙◌, subst, arith, map}
+use Rattle.std.specs.Prelude.{if◌then◌else◌}
 use Rattle.snap_ids.specs.declared.id.Ino.{Ino}
-use Rattle.snap_ids.specs.declared.id.TheConstants.{ROOT, STRAY, GLOBAL, FIRST_INO}
-use Rattle.snap_ids.specs.declared.values.Kind.TheVariants.{Dir, File}
-use Rattle.plain_tree.specs.State.{State, Inode, lookup, is_at}
+use Rattle.snap_ids.specs.declared.id.TheConstants.{ROOT, STRAY, GLOBAL}
+use Rattle.plain_tree.specs.State.{State, lookup, is_at}
 use Rattle.plain_tree.specs.State.{Entry as Dentry}
 use Rattle.plain_tree.specs.Walk.{names_of}
 use Rattle.plain_journal.specs.Realms.{directory_of, parent_in, begins_realm, nearest, realm_in}
-use Rattle.realm_story.specs.Family.{Member, Family, same_ino, member, is_member, above_by, way_up, is_on, is_root, is_in_global, is_marked, realm_of}
+use Rattle.realm_story.specs.Family.{Family, same_ino, member, is_member, above_by, way_up, is_on, is_in_global, is_marked, realm_of}
 use Rattle.realm_story.specs.Family.{nearest as nearest_told}
-use Rattle.realm_story.proofs.Facts.{both_of, same_of, same_sym, itself}
+use Rattle.realm_story.proofs.Facts.{both_of, same_of, itself}
 use Rattle.journal_realms.specs.Above.{parents, LeadsUp}
 use Rattle.journal_realms.proofs.Parents.{parents_more}
 use Rattle.journal_realms.proofs.Tree.{IsTree, IsFolder, HeadIs, head_dirs, above_of, above_none, not_low, of_folder, folder_outside}

@@ -1,16 +1,16 @@
 -- The ways up after an inode was moved, or lost its last name.
-use Rattle.std.proofs.Common.{◌≡◌, ℕ, ◌+◌, ◌-◌, ◌<◌, ◌≤◌, List, [], ◌∷◌, ◌++◌, length, Bool, true, false, cond, not, ◌||◌, ◌&&◌, Option, None, Some, ◌⊎◌, inl, inr, refl, sym, ap, ◌∙◌, subst, arith, map, filter}
+use Rattle.std.proofs.Common.{◌≡◌, ◌≤◌, List, [], ◌∷◌, length, Bool, true, false, not, ◌||◌, Option, refl, sym, ap, ◌∙◌, subst, arith, map, filter}
 use Rattle.snap_ids.specs.declared.id.Ino.{Ino}
-use Rattle.snap_ids.specs.declared.id.TheConstants.{ROOT, STRAY, GLOBAL, FIRST_INO}
+use Rattle.snap_ids.specs.declared.id.TheConstants.{ROOT, STRAY, GLOBAL}
 use Rattle.snap_ids.specs.declared.values.Kind.TheVariants.{Dir, File}
 use Rattle.plain_tree.specs.State.{Entry, Inode, kind_in}
-use Rattle.realm_story.specs.Family.{Member, same_ino, member, is_member, above_by, way_up, is_on, is_in_global, way_moved, moved}
-use Rattle.realm_story.proofs.Facts.{same_of, same_sym, itself}
+use Rattle.realm_story.specs.Family.{Member, same_ino, member, is_member, above_by, is_on, is_in_global, way_moved, moved}
+use Rattle.realm_story.proofs.Facts.{same_of, same_sym}
 use Rattle.realm_story.proofs.Same.{or_first, or_second}
 use Rattle.journal_realms.specs.Above.{parents}
 use Rattle.journal_realms.proofs.Parents.{IsOnce}
 use Rattle.journal_realms.proofs.Members.{moved_is, moved_other, moved_self, left_other, left_self, way_off, off_moved}
-use Rattle.journal_realms.proofs.Tree.{IsTree, IsFolder, is_folder, AllDirs, HeadIs, head_dirs, dirs_weaker, dirs_both, above_of, above_same, less_apart, above_none, not_low, of_folder, folder_outside}
+use Rattle.journal_realms.proofs.Tree.{IsTree, IsFolder, AllDirs, HeadIs, head_dirs, dirs_weaker, dirs_both, above_of, above_same, less_apart, above_none}
 
 -- what the names are after one inode got others
 pub record Renames (entries new : List Entry) (inodes : List Inode) (members : List Member) (x : Ino) (ds : List Ino) : Type 0 where

@@ -1,9 +1,9 @@
 -- The contexts, the names shown and the live ids of both vocabularies.
-use Rattle.std.proofs.Common.{◌≡◌, ℕ, ◌+◌, ◌<◌, ◌≤◌, List, [], ◌∷◌, ◌++◌, Bool, true, false, cond, not, ◌||◌, ◌&&◌, ◌==◌, max, Option, None, Some, refl, sym, ap, ◌∙◌, subst, arith, map, filter, eqb, leb, reverse}
+use Rattle.std.proofs.Common.{◌≡◌, ℕ, ◌+◌, ◌<◌, ◌≤◌, List, [], ◌∷◌, ◌++◌, Bool, true, false, cond, not, ◌||◌, ◌&&◌, ◌==◌, max, Option, None, Some, refl, sym, ap, ◌∙◌, subst, arith, filter, eqb, leb, reverse}
 use Rattle.std.proofs.lemmas.Bool.Decides.{nat_tests}
-use Rattle.std.specs.Prelude.{nat_le, fold, filter_map, if◌then◌else◌}
+use Rattle.std.specs.Prelude.{nat_le, filter_map, if◌then◌else◌}
 use Rattle.std.specs.List.{list_any}
-use Rattle.std.proofs.lemmas.List.{map-append, reverse-append}
+use Rattle.std.proofs.lemmas.List.{reverse-append}
 use Rattle.std.proofs.lemmas.List.Elements.{filter_map-append}
 use Rattle.std.proofs.lemmas.List.Folds.{list_any-append}
 use Rattle.std.proofs.lemmas.List.Sums.{fold-append}
@@ -17,24 +17,23 @@ use Rattle.plain_types.specs.declared.entry.What.{What}
 use Rattle.plain_types.specs.declared.entry.What.TheVariants as what
 use Rattle.plain_tree.specs.State.{Snapshot}
 use Rattle.plain_tree.specs.State.{start as empty}
-use Rattle.plain_tree.specs.Change.{is_refused, is_live}
+use Rattle.plain_tree.specs.Change.{is_refused}
 use Rattle.plain_journal.specs.Entries.{change_in, state_after}
 use Rattle.plain_journal.specs.Coverage.{is_global, made_since, made_over, covering, purges, is_purged, kept, greatest, context}
-use Rattle.plain_journal.specs.Realms.{name_shown, shown}
-use Rattle.plain_journal.specs.Table.{removed_by, to_purge}
+use Rattle.plain_journal.specs.Table.{removed_by}
 use Rattle.plain_journal.specs.Legal.{is_made_by, fits, is_legal, is_journal}
-use Rattle.realm_story.specs.Family.{Made, Family, same_ino, member, is_member, is_on, is_in_global, birth_of, covers, ids_of, is_kept, live_ids}
-use Rattle.realm_story.specs.Family.{covering as covering_told, greatest as greatest_told, context as context_told, name_shown as name_told, shown as shown_told}
-use Rattle.realm_story.specs.Stands.{FallBelow, Each}
-use Rattle.realm_story.proofs.Facts.{both_of, same_of, id_of, id_itself}
-use Rattle.realm_story.proofs.Same.{each_weaker, each_both, each_below}
+use Rattle.realm_story.specs.Family.{Made, Family, same_ino, member, is_member, is_on, is_in_global, birth_of, covers, ids_of, is_kept}
+use Rattle.realm_story.specs.Family.{covering as covering_told, greatest as greatest_told, context as context_told}
+use Rattle.realm_story.specs.Stands.{Each}
+use Rattle.realm_story.proofs.Facts.{both_of}
+use Rattle.realm_story.proofs.Same.{each_weaker, each_below}
 use Rattle.journal_realms.specs.Told.{snap_of, drop_found, told, family_of}
 use Rattle.journal_realms.proofs.Family.{family_more}
 use Rattle.journal_realms.proofs.Tree.{above_none}
 use Rattle.journal_realms.proofs.Kept.{not_true, not_false}
 use Rattle.journal_realms.proofs.Trees.{tied_after}
 use Rattle.journal_realms.proofs.Globals.{same_global}
-use Rattle.journal_realms.proofs.Snaps.{plain_of, rev_plain, leaves_snaps, told_snaps, each_map, dropped_one, purged_one, found_of, found_is, each_found, above_last, basic_after}
+use Rattle.journal_realms.proofs.Snaps.{leaves_snaps, told_snaps, each_map, dropped_one, purged_one, found_of, found_is, each_found, above_last, basic_after}
 use Rattle.journal_realms.proofs.Covered.{applied_grows, covers_after}
 use Rattle.journal_realms.proofs.Contexts.{rev_ids, over_same, since_same}
 use Rattle.journal_realms.proofs.Induct.{of_each}
@@ -100,7 +99,7 @@ same_covering entries legal x apart = go (is_in_global (family_of entries).membe
         ((covers_after entries legal).early x)))
 
 -- removed ids were made
-any_filter : (q p : SnapId → Bool) (ids : List SnapId) → list_any q (filter p ids) ≡ true → list_any q ids ≡ true
+pub any_filter : (q p : SnapId → Bool) (ids : List SnapId) → list_any q (filter p ids) ≡ true → list_any q ids ≡ true
 any_filter q p [] any = any
 any_filter q p (id ∷ ids) any = go (p id) any (any_filter q p ids)
   where
@@ -116,14 +115,14 @@ any_filter q p (id ∷ ids) any = go (p id) any (any_filter q p ids)
         first false any = rest any
     go false any rest = rw (rest any) (or_true (q id))
 
-abbrev removed_ids : List Entry → List SnapId
+abbrev pub removed_ids : List Entry → List SnapId
 removed_ids entries = filter_map (λ (entry : Entry). removed_by entry.what) entries
 
-removed_is : (w : What) (i : SnapId) → removed_by w ≡ Some i → w ≡ what.Rmsnap i
+pub removed_is : (w : What) (i : SnapId) → removed_by w ≡ Some i → w ≡ what.Rmsnap i
 removed_is (what.Rmsnap id) i is = let same : id ≡ i = cc in ap what.Rmsnap same
 removed_is w i is = cc
 
-removed_low : (entries : List Entry) → is_journal entries ≡ true → (id : SnapId) → list_any (λ (s : SnapId). s.0 == id.0) (removed_ids entries) ≡ true → id.0 ≤ (family_of entries).applied.0
+pub removed_low : (entries : List Entry) → is_journal entries ≡ true → (id : SnapId) → list_any (λ (s : SnapId). s.0 == id.0) (removed_ids entries) ≡ true → id.0 ≤ (family_of entries).applied.0
 removed_low entries legal = of_each (λ (done : List Entry). (id : SnapId) → list_any (λ (s : SnapId). s.0 == id.0) (removed_ids done) ≡ true → id.0 ≤ (family_of done).applied.0) (λ id any. cc) more entries legal
   where
     more : (done : List Entry) (e : Entry) → is_journal done ≡ true → ((id : SnapId) → list_any (λ (s : SnapId). s.0 == id.0) (removed_ids done) ≡ true → id.0 ≤ (family_of done).applied.0) → is_legal done e ≡ true → (id : SnapId) → list_any (λ (s : SnapId). s.0 == id.0) (removed_ids (done ++ e ∷ [])) ≡ true → id.0 ≤ (family_of (done ++ e ∷ [])).applied.0

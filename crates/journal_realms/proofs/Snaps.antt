@@ -1,5 +1,5 @@
 -- The snapshots of the plain tree are those of the story, in the other order.
-use Rattle.std.proofs.Common.{◌≡◌, ℕ, ◌+◌, ◌<◌, ◌≤◌, List, [], ◌∷◌, ◌++◌, length, Bool, true, false, cond, not, ◌||◌, ◌&&◌, ◌==◌, Option, None, Some, refl, sym, ap, ◌∙◌, subst, arith, map, filter, eqb, ltb}
+use Rattle.std.proofs.Common.{◌≡◌, ℕ, ◌+◌, ◌<◌, ◌≤◌, List, [], ◌∷◌, ◌++◌, Bool, true, false, cond, not, ◌||◌, ◌&&◌, ◌==◌, Option, None, Some, refl, sym, ap, ◌∙◌, subst, arith, map, eqb}
 use Rattle.std.proofs.lemmas.Bool.Decides.{nat_tests}
 use Rattle.std.specs.Prelude.{nat_lt, find, is_some, bytes_eq, if◌then◌else◌}
 use Rattle.std.specs.List.{list_any}
@@ -18,12 +18,12 @@ use Rattle.plain_types.specs.declared.entry.What.{What}
 use Rattle.plain_types.specs.declared.entry.What.TheVariants as what
 use Rattle.plain_tree.specs.State.{State, Snapshot, lookup}
 use Rattle.plain_tree.specs.State.{is_named as is_named_in}
-use Rattle.plain_tree.specs.Change.{is_directory, is_free_snap, is_refused, own_snap, has_all_snaps, are_all_live, removed, make, apply}
+use Rattle.plain_tree.specs.Change.{is_directory, is_free_snap, is_refused, own_snap, removed, make, apply}
 use Rattle.plain_journal.specs.Entries.{change_in, with_change, after_entry, state_after, applied_by, applied}
 use Rattle.plain_journal.specs.Legal.{is_made_by, is_given, fits, is_legal, is_journal}
-use Rattle.realm_story.specs.Family.{Made, Family, same_ino, is_in_global, is_named, move_to, drop_snap}
+use Rattle.realm_story.specs.Family.{Made, Family, same_ino, is_in_global, is_named, move_to}
 use Rattle.realm_story.specs.Stands.{FallBelow, Each}
-use Rattle.realm_story.proofs.Facts.{both_of, same_of, id_of, same_sym, itself, apart_sym}
+use Rattle.realm_story.proofs.Facts.{both_of, same_of, id_of, same_sym, itself}
 use Rattle.realm_story.proofs.Same.{each_weaker, each_both, each_below}
 use Rattle.journal_laws.proofs.Steps.{state_more, apply_made}
 use Rattle.journal_realms.specs.Told.{move_found, forget_found, snap_of, drop_found, told, family_of}
@@ -203,7 +203,7 @@ each_found P id (snap ∷ snaps) s found all = go (snap.live && snap.id.0 == id.
     go false found rest = rest found
 
 -- the name of a live snapshot is that of no other one
-named_is : (id : SnapId) (bound : ℕ) (snaps : List Made) (s : Made) → FallBelow bound snaps → IsOwn snaps → snap_of snaps id ≡ Some s → Each (λ t. t.live ≡ true → has_name s.root s.name t ≡ (t.id.0 == id.0)) snaps
+pub named_is : (id : SnapId) (bound : ℕ) (snaps : List Made) (s : Made) → FallBelow bound snaps → IsOwn snaps → snap_of snaps id ≡ Some s → Each (λ t. t.live ≡ true → has_name s.root s.name t ≡ (t.id.0 == id.0)) snaps
 named_is id bound [] s fall own found = tt
 named_is id bound (snap ∷ snaps) s fall own found = go (snap.live && snap.id.0 == id.0) refl found (named_is id snap.id.0 snaps s fall.2 own.1)
   where

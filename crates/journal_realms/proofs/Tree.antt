@@ -1,15 +1,15 @@
 -- What ties the ways up of a story to the names of a plain tree.
-use Rattle.std.proofs.Common.{◌≡◌, ℕ, zero, suc, ◌+◌, ◌-◌, ◌<◌, ◌≤◌, List, [], ◌∷◌, ◌++◌, length, Bool, true, false, cond, not, ◌||◌, ◌&&◌, Option, None, Some, ◌⊎◌, inl, inr, refl, sym, ap, ◌∙◌, subst, arith, map, filter, eqb}
+use Rattle.std.proofs.Common.{◌≡◌, ℕ, ◌+◌, ◌-◌, ◌<◌, ◌≤◌, List, [], ◌∷◌, ◌++◌, length, Bool, true, false, cond, not, ◌||◌, Option, None, Some, ◌⊎◌, inl, inr, refl, sym, ap, ◌∙◌, subst, arith, eqb}
 use Rattle.std.proofs.lemmas.Bool.Decides.{nat_tests}
 use Rattle.std.specs.List.{list_any}
 use Rattle.snap_ids.specs.declared.id.Ino.{Ino}
 use Rattle.snap_ids.specs.declared.id.TheConstants.{ROOT, STRAY, GLOBAL, FIRST_INO}
 use Rattle.snap_ids.specs.declared.values.Kind.{Kind}
 use Rattle.snap_ids.specs.declared.values.Kind.TheVariants.{Dir, File}
-use Rattle.plain_tree.specs.State.{Entry, Inode, kind_in, lookup, add, precedes, is_at}
-use Rattle.plain_tree.specs.Change.{entry, without}
+use Rattle.plain_tree.specs.State.{Entry, Inode, kind_in, add, precedes, is_at}
+use Rattle.plain_tree.specs.Change.{without}
 use Rattle.realm_story.specs.Family.{Member, same_ino, member, is_member, above_by, way_up, is_on, is_in_global}
-use Rattle.realm_story.proofs.Facts.{same_of, same_sym, itself}
+use Rattle.realm_story.proofs.Facts.{same_of}
 use Rattle.journal_realms.specs.Above.{parents}
 use Rattle.journal_realms.proofs.Parents.{IsOnce, parents_more}
 

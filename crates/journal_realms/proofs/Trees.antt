@@ -1,23 +1,22 @@
 -- After every journal the ways of the story are tied to the names of the plain tree.
-use Rattle.std.proofs.Common.{◌≡◌, ℕ, List, [], ◌∷◌, ◌++◌, length, Bool, true, false, cond, ◌||◌, Option, None, Some, refl, sym, ap, ◌∙◌, subst, arith}
+use Rattle.std.proofs.Common.{◌≡◌, List, [], ◌∷◌, ◌++◌, Bool, true, false, cond, ◌||◌, refl, sym, ap, ◌∙◌, subst, arith}
 use Rattle.std.proofs.lemmas.Bool.{eqb-true}
-use Rattle.std.specs.List.{list_any}
 use Rattle.snap_ids.specs.declared.id.Ino.{Ino}
 use Rattle.snap_ids.specs.declared.values.Kind.TheVariants.{Dir, File}
 use Rattle.snap_ids.specs.declared.id.TheConstants.{ROOT}
 use Rattle.plain_types.specs.declared.entry.Entry.{Entry}
 use Rattle.plain_types.specs.declared.entry.What.{What}
 use Rattle.plain_types.specs.declared.entry.What.TheVariants as what
-use Rattle.plain_tree.specs.State.{State, Inode, next_ino}
+use Rattle.plain_tree.specs.State.{State, next_ino}
 use Rattle.plain_tree.specs.State.{start as empty}
 use Rattle.plain_journal.specs.Entries.{change_in, after_entry, state_after}
 use Rattle.plain_journal.specs.Legal.{is_made_by, fits, is_legal, is_journal}
-use Rattle.realm_story.specs.Family.{Member, Family, same_ino, start, is_in_global, above_by, member}
+use Rattle.realm_story.specs.Family.{Family, same_ino, above_by, member}
 use Rattle.plain_tree.specs.Change.{is_directory}
 use Rattle.realm_story.proofs.Facts.{both_of, same_sym}
 use Rattle.journal_laws.proofs.Steps.{of_journals, state_more}
 use Rattle.journal_realms.specs.Above.{LeadsUp}
-use Rattle.journal_realms.specs.Told.{told, family_of}
+use Rattle.journal_realms.specs.Told.{family_of}
 use Rattle.journal_realms.proofs.Family.{family_more}
 use Rattle.journal_realms.proofs.Tree.{IsTree}
 use Rattle.journal_realms.proofs.Chains.{folder_chain}

@@ -1,5 +1,5 @@
 // What is true of every journal, in both vocabularies.
-ghost use Rattle.std.specs.Prelude.{◌≡◌, List, true, false, map, filter, reverse};
+ghost use Rattle.std.specs.Prelude.{◌≡◌, ◌++◌, ◌∷◌, [], List, true, false, map, filter, reverse};
 ghost use Rattle.snap_ids.specs.declared.id.Ino.{Ino};
 ghost use Rattle.snap_ids.specs.declared.id.TheConstants.{ROOT, GLOBAL};
 ghost use Rattle.plain_types.specs.declared.entry.Entry.{Entry};
@@ -12,6 +12,7 @@ ghost use Rattle.plain_journal.specs.Realms.{realm_at, shown};
 ghost use Rattle.realm_story.specs.Family.{member, above_by, same_ino, birth_of, realm_of, live_ids};
 ghost use Rattle.realm_story.specs.Family.{context as context_told, shown as shown_told};
 ghost use Rattle.journal_realms.specs.Above.{LeadsUp, is_held, birth_at};
+ghost use Rattle.journal_realms.specs.Calls.{IsFine};
 ghost use Rattle.journal_realms.specs.Told.{family_of};
 
 /// Both have the same last id.
@@ -41,7 +42,7 @@ pub fn realms_are_the_same()
         → realm_of (family_of entries) x ≡ realm_at entries x }
 {}
 
-/// The context of each inode, of the global realm's own root alone not.
+/// The context of each inode but the root of the global realm itself.
 pub fn contexts_are_the_same()
     ensures { (entries : List Entry) → is_journal entries ≡ true → (x : Ino)
         → same_ino GLOBAL x ≡ false
@@ -60,4 +61,10 @@ pub fn live_ids_are_the_same()
     ensures { (entries : List Entry) → is_journal entries ≡ true
         → reverse (live_ids (family_of entries))
         ≡ map (λ (snap : Snapshot). snap.id) (filter is_live (state_after entries).snaps) }
+{}
+
+/// At each entry of a journal its call on the story is fine.
+pub fn calls_are_fine()
+    ensures { (entries : List Entry) (e : Entry) → is_journal (entries ++ e ∷ []) ≡ true
+        → IsFine (state_after entries) (family_of entries) e.what }
 {}
