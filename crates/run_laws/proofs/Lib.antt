@@ -21,4 +21,5 @@ mod Holders
 mod Fitting
 mod Kept
 mod Purging
+mod Lasting
 mod Determined
