@@ -1,5 +1,5 @@
 -- The calls of a journal's entries on the story are fine.
-use Rattle.std.proofs.Common.{◌≡◌, ℕ, ◌≤◌, List, [], ◌∷◌, ◌++◌, Bool, true, false, not, ◌||◌, ◌&&◌, ◌==◌, Option, None, Some, ◌⊎◌, inl, inr, refl, sym, ap, ◌∙◌, subst, arith, leb}
+use Rattle.std.proofs.Common.{◌≡◌, ℕ, ◌+◌, ◌≤◌, List, [], ◌∷◌, ◌++◌, Bool, true, false, cond, not, ◌||◌, ◌&&◌, ◌==◌, Option, None, Some, ◌⊎◌, inl, inr, refl, sym, ap, ◌∙◌, subst, arith, leb, length, length-append, filter}
 use Rattle.std.proofs.lemmas.Bool.Decides.{nat_tests}
 use Rattle.std.specs.Prelude.{is_some, nat_le, nat_lt}
 use Rattle.std.specs.List.{list_any}
@@ -12,9 +12,10 @@ use Rattle.plain_types.specs.declared.entry.What.{What}
 use Rattle.plain_types.specs.declared.entry.What.TheVariants as what
 use Rattle.plain_tree.specs.State.{State, Snapshot, new_directory, lookup}
 use Rattle.plain_tree.specs.State.{Entry as Dentry}
-use Rattle.plain_tree.specs.Change.{is_directory, is_file, is_free, is_own, is_refused, is_removable, is_movable, names_one}
-use Rattle.plain_journal.specs.Entries.{change_in, state_after}
-use Rattle.plain_journal.specs.Legal.{is_made_by, fits, is_legal, is_journal}
+use Rattle.plain_tree.specs.Change.{is_directory, is_file, is_free, is_own, is_refused, is_removable, is_free_snap, own_snap, has_all_snaps, are_all_live, is_live, is_movable, names_one}
+use Rattle.snap_ids.specs.Name.{is_new_snap}
+use Rattle.plain_journal.specs.Entries.{change_in, state_after, applied}
+use Rattle.plain_journal.specs.Legal.{is_made_by, fits, is_legal, is_given, is_journal}
 use Rattle.realm_story.specs.Family.{Made, Family, same_ino, member, is_member, is_there, above_by, is_on, is_root, is_in_global, is_fresh, is_named, next_id}
 use Rattle.realm_story.specs.Stands.{Each}
 use Rattle.realm_story.proofs.Facts.{both_of, same_sym}
@@ -28,8 +29,9 @@ use Rattle.journal_realms.proofs.Chains.{folder_chain}
 use Rattle.journal_realms.proofs.Kept.{not_true, not_false, none_in, free_of, found_member, off_target}
 use Rattle.journal_realms.proofs.Trees.{tied_after, next_of}
 use Rattle.journal_realms.proofs.Globals.{linked_member}
-use Rattle.journal_realms.proofs.Snaps.{IsOwn, has_name, found_of, above_last, basic_after}
+use Rattle.journal_realms.proofs.Snaps.{plain_of, rev_plain, IsOwn, has_name, found_of, above_last, basic_after}
 use Rattle.journal_realms.proofs.Covered.{snap_folder, covers_after}
+use Rattle.journal_realms.proofs.Shown.{filter_push}
 use Rattle.journal_realms.proofs.Induct.{legal_more}
 use Rattle.journal_realms.proofs.Dead.{purged_dead}
 use Rattle.journal_laws.proofs.Steps.{last_legal}
@@ -149,6 +151,31 @@ free_told dir name (s ∷ snaps) all = go s.live (has_name dir name s) all.0 (fr
     go true false off rest = rest
     go false c off rest = rest
 
+-- as many snapshots pass a test in both
+rev_length : (r : Snapshot → Bool) (p : Made → Bool) → ((s : Made) → r (plain_of s) ≡ p s) → (snaps : List Made) → length (filter r (rev_plain snaps)) ≡ length (filter p snaps)
+rev_length r p same [] = refl
+rev_length r p same (s ∷ snaps) =
+    ap length (filter_push r (rev_plain snaps) (plain_of s))
+    ∙ length-append (filter r (rev_plain snaps)) (cond (r (plain_of s)) (plain_of s ∷ []) [])
+    ∙ go (p s) (same s) (rev_length r p same snaps)
+  where
+    go : (b : Bool) → r (plain_of s) ≡ b → length (filter r (rev_plain snaps)) ≡ length (filter p snaps) → length (filter r (rev_plain snaps)) + length (cond (r (plain_of s)) (plain_of s ∷ []) []) ≡ length (cond b (s ∷ filter p snaps) (filter p snaps))
+    go true is rest = rw is (omega (arith, rest))
+    go false is rest = rw is (omega (arith, rest))
+
+-- what a directory that can get a snapshot passes
+record Frees (state : State) (dir : Ino) (name : List ℕ) : Type 0 where
+  pub new_name : is_new_snap name ≡ true
+  pub few_own : has_all_snaps state.snaps dir ≡ false
+  pub few_live : are_all_live state.snaps ≡ false
+
+frees : (state : State) (dir : Ino) (name : List ℕ) → is_free_snap state dir name ≡ true → Frees state dir name
+frees state dir name is =
+    let l = both_of (is_directory state dir && is_new_snap name && not (is_some (own_snap state.snaps dir name)) && not (has_all_snaps state.snaps dir)) (not (are_all_live state.snaps)) is in
+    let m = both_of (is_directory state dir && is_new_snap name && not (is_some (own_snap state.snaps dir name))) (not (has_all_snaps state.snaps dir)) l.0 in
+    let n = both_of (is_directory state dir && is_new_snap name) (not (is_some (own_snap state.snaps dir name))) m.0 in
+    record { new_name = (both_of (is_directory state dir) (is_new_snap name) n.0).1; few_own = not_true (has_all_snaps state.snaps dir) m.1; few_live = not_true (are_all_live state.snaps) l.1 }
+
 module _ (done : List Entry) (e : Entry) (legal : is_journal done ≡ true) (fine : is_legal done e ≡ true) where
   abbrev state : State
   state = state_after done
@@ -166,8 +193,10 @@ module _ (done : List Entry) (e : Entry) (legal : is_journal done ≡ true) (fin
       go (inl root) = ap (λ (d : Ino). same_ino d STRAY) root
       go (inr there) = same_sym dir STRAY ∙ less_apart STRAY dir (omega (arith, tree.high dir there))
 
-  snapped : (id : SnapId) (dir : Ino) (name : List ℕ) → e.what ≡ what.Mksnap id dir name → is_made_by state e.client (change_in (what.Mksnap id dir name)) ≡ true → IsSnap family id dir name
-  snapped id dir name is made =
+  snapped : (id : SnapId) (dir : Ino) (name : List ℕ) → e.what ≡ what.Mksnap id dir name → is_made_by state e.client (change_in (what.Mksnap id dir name)) ≡ true → fits done (what.Mksnap id dir name) ≡ true → IsSnap family id dir name
+  snapped id dir name is made next =
+      let free = frees state dir name (not_false (is_free_snap state dir name) (not_true (is_refused state e.client (change.Mksnap id dir name)) made)) in
+      let same = (basic_after done legal).same in
       let folder = snap_folder state e.client family tree id dir name made in
       let own : IsOwn (told state (what.Mksnap id dir name) family).snaps = subst (λ (w : What). IsOwn (told state w family).snaps) is (subst (λ (f : Family). IsOwn f.snaps) (family_more done e) (basic_after (done ++ e ∷ []) (legal_more [] done e legal fine)).own) in
       record {
@@ -176,6 +205,10 @@ module _ (done : List Entry) (e : Entry) (legal : is_journal done ≡ true) (fin
         no_stray = no_stray dir folder;
         later = above_last done e legal fine id dir name is;
         free = free_told dir name family.snaps (own.0 refl);
+        given = (both_of (nat_lt (applied done) id.0) (is_given id) next).1;
+        new_name = free.new_name;
+        few_own = ap (λ (n : ℕ). nat_lt 99 n) (sym (ap (λ (l : List Snapshot). length (filter (is_own dir) l)) same ∙ rev_length (is_own dir) (λ (s : Made). s.live && same_ino s.root dir) (λ s. refl) family.snaps)) ∙ free.few_own;
+        few_live = ap (λ (n : ℕ). nat_lt 127 n) (sym (ap (λ (l : List Snapshot). length (filter is_live l)) same ∙ rev_length is_live (λ (s : Made). s.live) (λ s. refl) family.snaps)) ∙ free.few_live;
       }
 
   removed_found : (id : SnapId) → is_made_by state e.client (change_in (what.Rmsnap id)) ≡ true → is_some (snap_of family.snaps id) ≡ true
@@ -197,7 +230,7 @@ module _ (done : List Entry) (e : Entry) (legal : is_journal done ≡ true) (fin
   fine_by (what.Rename dir name to to_name) is made next =
       let l = both_of (names_one (is_movable state to) (lookup state.entries dir name)) (is_free state to to_name) (not_false (names_one (is_movable state to) (lookup state.entries dir name) && is_free state to to_name) (not_true (is_refused state e.client (change.Rename dir name to to_name)) made)) in
       renamed_move state e.client family tree dir name to to_name (lookup state.entries dir name) refl l.0 l.1
-  fine_by (what.Mksnap id dir name) is made next = snapped id dir name is made
+  fine_by (what.Mksnap id dir name) is made next = snapped id dir name is made next
   fine_by (what.Rmsnap id) is made next = removed_found id made
   fine_by (what.Purgedone id) is made next = purged_dead done legal id next
   fine_by w is made next = tt

@@ -1,12 +1,14 @@
 -- What holds where an entry of a journal calls on a story of realms.
-use Rattle.std.specs.Prelude.{◌≡◌, ℕ, ◌<◌, Bool, true, false, ◌&&◌, ◌==◌, List, is_some, Option, None, Some}
+use Rattle.std.specs.Prelude.{◌≡◌, ℕ, ◌<◌, Bool, true, false, ◌&&◌, ◌==◌, nat_lt, List, length, filter, is_some, Option, None, Some}
 use Rattle.std.specs.List.{list_any}
 use Rattle.snap_ids.specs.declared.id.Ino.{Ino}
 use Rattle.snap_ids.specs.declared.id.SnapId.{SnapId}
 use Rattle.snap_ids.specs.declared.id.TheConstants.{STRAY}
+use Rattle.snap_ids.specs.Name.{is_new_snap}
 use Rattle.plain_types.specs.declared.entry.What.{What}
 use Rattle.plain_types.specs.declared.entry.What.TheVariants.{Mkdir, Create, Link, Unlink, Rmdir, Rename, Mksnap, Rmsnap, Purgedone}
 use Rattle.plain_tree.specs.State.{State, lookup}
+use Rattle.plain_journal.specs.Legal.{is_given}
 use Rattle.realm_story.specs.Family.{Made, Family, same_ino, member, is_there, above_by, is_on, is_root, is_under, is_in_global, is_fresh, is_named}
 use Rattle.journal_realms.specs.Told.{snap_of}
 
@@ -32,13 +34,18 @@ pub record IsMove (family : Family) (ino parent : Ino) : Type 0 where
   pub parent_outside : is_in_global family.members parent ≡ false
   pub apart : is_under family.members parent ino ≡ false
 
--- a directory gets a snapshot: it is there and can have one of this name, and the id is above the last one
+-- A directory gets a snapshot: it is there and can have one of this name, and the id is above the last one. Fewer than 100
+-- snapshots of the directory have a name, and fewer than 128 in all.
 pub record IsSnap (family : Family) (id : SnapId) (dir : Ino) (name : List ℕ) : Type 0 where
   pub there : is_there family.members dir ≡ true
   pub outside : is_in_global family.members dir ≡ false
   pub no_stray : same_ino dir STRAY ≡ false
   pub later : family.applied.0 < id.0
+  pub given : is_given id ≡ true
+  pub new_name : is_new_snap name ≡ true
   pub free : list_any (is_named dir name) family.snaps ≡ false
+  pub few_own : nat_lt 99 (length (filter (λ (snap : Made). snap.live && same_ino snap.root dir) family.snaps)) ≡ false
+  pub few_live : nat_lt 127 (length (filter (λ (snap : Made). snap.live) family.snaps)) ≡ false
 
 -- a name is that of an inode of which this is true
 abbrev pub Found : (Ino → Type 0) → Option Ino → Type 0
