@@ -2,7 +2,7 @@
 use crate::{has_all, notices};
 use cap_state::{Asked, Caps};
 use plain_types::{FileTrace, Inos, SnapUpdate};
-use snap_ids::{Ids, Ino, Mode, NoMemory, ROOT, RealmInfo, SnapId, Trace};
+use snap_ids::{Ids, Ino, Mode, ROOT, RealmInfo, SnapId, Trace};
 use snap_realm::RealmTree;
 use std::alloc::{AllocError, Global};
 use std::test::Fail;
