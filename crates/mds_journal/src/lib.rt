@@ -11,3 +11,6 @@ mod scan;
 pub use fault::{JournalError, JournalFault};
 pub use journal::Journal;
 pub use journal_format::{decode, encode};
+
+#[cfg(test)]
+mod tests;
