@@ -1,5 +1,5 @@
 -- What fits the server's tables: holders that don't clash, and one operation at a time.
-use Rattle.std.proofs.Common.{◌≡◌, ℕ, List, [], ◌∷◌, ◌++◌, map, filter, not, Bool, true, false, true≢false, cond, Option, None, Some, refl, ◌∙◌, ap, sym, subst, IfSome, arith}
+use Rattle.std.proofs.Common.{◌≡◌, ◌≤◌, ◌+◌, ℕ, List, [], ◌∷◌, ◌++◌, map, filter, not, Bool, true, false, true≢false, cond, Option, None, Some, refl, ◌∙◌, ap, sym, subst, IfSome, arith}
 use Rattle.std.proofs.lemmas.Bool.Decides.{nat_tests}
 use Rattle.std.specs.Prelude.{nat_lt, take, zero, suc, ◌||◌, ◌&&◌, ◌==◌, nat_le, flat_map, find, is_some, Result, Ok, Err}
 use Rattle.std.specs.List.{list_any, list_all, cons_option}
@@ -49,7 +49,7 @@ use Rattle.run_laws.proofs.Gives.{AlwaysFit}
 use Rattle.run_laws.proofs.Holders.{or_false}
 
 -- A new holder clashes with none, Read is raised where no other holds the file, what is written
--- down fits the entries, and an id is purged whose removal is durable.
+-- down fits the entries, an id is purged whose removal is durable, and no restart is told to the store.
 abbrev pub TableFits : Server → Act → Type 0
 TableFits s (Hold h) = list_any (clash h) s.holders ≡ false
 TableFits s (Raise client ino upto) = in_conflict s client ino Write ≡ false
@@ -57,6 +57,7 @@ TableFits s (Prepare said) = EntryFits s.entries said
 TableFits s (MakeEffect made) = IfSome (written_down made) (EntryFits s.entries)
 TableFits s (Buffer e) = EntryFits s.entries e.what
 TableFits s (SendPurge id) = is_listed id (removed (take s.durable s.entries)) ≡ true
+TableFits s (TellRestart client) = (client == s.clients + 1) ≡ false
 TableFits s a = Unit {0}
 
 fit_if : (s : Server) (b : Bool) (xs ys : List Act) → (b ≡ true → Fit TableFits s xs) → (b ≡ false → Fit TableFits s ys) → Fit TableFits s (cond b xs ys)
@@ -263,12 +264,28 @@ reported_fit s (Ask conn tid asked) = tt
 reported_fit s (Flush conn f) = tt
 reported_fit s (DropRead conn ino) = tt
 
+-- numbers up to some one
+abbrev pub AllUpTo : ℕ → List ℕ → Type 0
+AllUpTo most [] = Unit {0}
+AllUpTo most (x ∷ list) = (x ≤ most) × AllUpTo most list
+
+up_to_end : (most : ℕ) (list : List ℕ) → AllUpTo most list → AllUpTo (suc most) (list ++ (most + 1) ∷ [])
+up_to_end most [] all = (omega arith, tt)
+up_to_end most (x ∷ list) all = (let less = all.0 in omega (arith, less), up_to_end most list all.1)
+
+pub up_to_all : (most : ℕ) → AllUpTo most (up_to most)
+up_to_all zero = tt
+up_to_all (suc most) = up_to_end most (up_to most) (up_to_all most)
+
 restarts_fit : (s : Server) → Fit TableFits s (restarts s)
-restarts_fit s = fit_append TableFits s (map TellRestart (up_to s.clients)) (roll_back_from (outstanding s.entries)) (told s (up_to s.clients)) (rolled (acts s (map TellRestart (up_to s.clients))) (outstanding s.entries))
+restarts_fit s = fit_append TableFits s (map TellRestart (up_to s.clients)) (roll_back_from (outstanding s.entries)) (told s (up_to s.clients) (up_to_all s.clients)) (rolled (acts s (map TellRestart (up_to s.clients))) (outstanding s.entries))
   where
-    told : (t : Server) (clients : List ℕ) → Fit TableFits t (map TellRestart clients)
-    told t [] = tt
-    told t (x ∷ clients) = (tt, told (act t (TellRestart x)) clients)
+    below : (x most : ℕ) → x ≤ most → (x == most + 1) ≡ false
+    below x most less = grind (arith, nat_tests, less)
+
+    told : (t : Server) (clients : List ℕ) → AllUpTo t.clients clients → Fit TableFits t (map TellRestart clients)
+    told t [] all = tt
+    told t (x ∷ clients) all = (below x t.clients all.0, told (act t (TellRestart x)) clients all.1)
 
     rolled : (t : Server) (o : Option (SnapId × ℕ)) → Fit TableFits t (roll_back_from o)
     rolled t None = tt

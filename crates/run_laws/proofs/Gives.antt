@@ -44,7 +44,7 @@ any_always = record {
     some s None = tt
     some s (Some list) = any_fit s list
 
-anew_fit : {F : Server → Act → Type 0} → AlwaysFit F → (s : Server) (list : List Asked) → Fit F s (each (λ t (a : Asked). TakeHeld a.client ∷ treat false (act t (TakeHeld a.client)) a) s list)
+pub anew_fit : {F : Server → Act → Type 0} → AlwaysFit F → (s : Server) (list : List Asked) → Fit F s (each (λ t (a : Asked). TakeHeld a.client ∷ treat false (act t (TakeHeld a.client)) a) s list)
 anew_fit fits s [] = tt
 anew_fit {F} fits s (a ∷ list) =
     let t = act s (TakeHeld a.client) in

@@ -22,4 +22,8 @@ mod Fitting
 mod Kept
 mod Purging
 mod Lasting
+mod Sending
+mod Outgoing
+mod Carried
+mod Delivered
 mod Determined

@@ -5,6 +5,7 @@
 mod journal;
 mod links;
 mod requests;
+mod runs;
 mod stamps;
 mod steps;
 mod tables;
@@ -12,6 +13,7 @@ mod tables;
 pub use journal::the_journal_only_grows;
 pub use links::{connection_numbers_never_fall, links_are_in_order};
 pub use requests::{a_request_has_one_effect, what_is_asked_is_open};
+pub use runs::runs_are_legal;
 pub use stamps::{stamps_never_fall, what_is_told_is_durable};
 pub use steps::a_history_is_determined_by_its_steps;
 pub use tables::{
