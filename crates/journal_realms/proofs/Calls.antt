@@ -152,7 +152,7 @@ free_told dir name (s ∷ snaps) all = go s.live (has_name dir name s) all.0 (fr
     go false c off rest = rest
 
 -- as many snapshots pass a test in both
-rev_length : (r : Snapshot → Bool) (p : Made → Bool) → ((s : Made) → r (plain_of s) ≡ p s) → (snaps : List Made) → length (filter r (rev_plain snaps)) ≡ length (filter p snaps)
+pub rev_length : (r : Snapshot → Bool) (p : Made → Bool) → ((s : Made) → r (plain_of s) ≡ p s) → (snaps : List Made) → length (filter r (rev_plain snaps)) ≡ length (filter p snaps)
 rev_length r p same [] = refl
 rev_length r p same (s ∷ snaps) =
     ap length (filter_push r (rev_plain snaps) (plain_of s))

@@ -15,9 +15,11 @@ pub mod Marks
 pub mod Members
 pub mod Names
 pub mod Parents
+pub mod Placed
 pub mod Realms
 pub mod Shifted
 pub mod Shown
+pub mod Snapped
 pub mod Snaps
 pub mod Tree
 pub mod Trees

@@ -5,12 +5,14 @@ use Rattle.snap_ids.specs.declared.id.TheConstants.{ROOT}
 use Rattle.plain_types.specs.declared.entry.Entry.{Entry}
 use Rattle.plain_types.specs.declared.entry.What.{What}
 use Rattle.plain_types.specs.declared.entry.What.TheVariants.{Mkdir, Create}
-use Rattle.plain_tree.specs.State.{State, same_ino}
+use Rattle.snap_ids.specs.declared.values.Kind.TheVariants.{File}
+use Rattle.plain_tree.specs.State.{State, Inode, same_ino, kind_in}
 use Rattle.plain_tree.specs.State.{Entry as Dentry}
 use Rattle.plain_tree.specs.Walk.{names_of}
 use Rattle.plain_tree.specs.Change.{is_directory}
 use Rattle.plain_journal.specs.Entries.{applied}
 use Rattle.plain_journal.specs.Legal.{is_made_file}
+use Rattle.realm_story.specs.Family.{Family, member, is_there, is_in_global, above_by, way_up}
 
 -- the directories in which an inode has a name
 abbrev pub parents : List Dentry → Ino → List Ino
@@ -39,3 +41,10 @@ before_made x (entry ∷ entries) = if makes x entry.what then [] else entry ∷
 -- the first id that an inode can have: the one after the last snapshot before it was made
 abbrev pub birth_at : List Entry → Ino → ℕ
 birth_at entries x = applied (before_made x entries) + 1
+
+-- What has a name is there in a story: outside the global realm it stands below the name's directory, and what is in that
+-- realm is a file.
+pub record IsPlaced (inodes : List Inode) (family : Family) (entry : Dentry) : Type 0 where
+  pub there : is_there family.members entry.ino ≡ true
+  pub below : is_in_global family.members entry.ino ≡ false → above_by (member family.members entry.ino) ≡ way_up family.members entry.dir
+  pub file : is_in_global family.members entry.ino ≡ true → kind_in inodes entry.ino ≡ File

@@ -1,17 +1,18 @@
 // What is true of every journal, in both vocabularies.
-ghost use Rattle.std.specs.Prelude.{◌≡◌, ◌++◌, ◌∷◌, [], List, true, false, map, filter, reverse};
+ghost use Rattle.std.specs.Prelude.{◌≡◌, ◌++◌, ◌∷◌, ◌&&◌, [], ℕ, List, true, false, length, map, filter, find, reverse, option_map};
+ghost use Rattle.std.specs.List.{AllByRecursion, list_any};
 ghost use Rattle.snap_ids.specs.declared.id.Ino.{Ino};
 ghost use Rattle.snap_ids.specs.declared.id.TheConstants.{ROOT, GLOBAL};
 ghost use Rattle.plain_types.specs.declared.entry.Entry.{Entry};
 ghost use Rattle.plain_tree.specs.State.{Snapshot};
-ghost use Rattle.plain_tree.specs.Change.{is_directory, is_live};
+ghost use Rattle.plain_tree.specs.Change.{is_directory, is_live, is_own, own_snap};
 ghost use Rattle.plain_journal.specs.Entries.{applied, state_after};
 ghost use Rattle.plain_journal.specs.Legal.{is_journal};
 ghost use Rattle.plain_journal.specs.Coverage.{context};
 ghost use Rattle.plain_journal.specs.Realms.{realm_at, shown};
-ghost use Rattle.realm_story.specs.Family.{member, above_by, same_ino, birth_of, realm_of, live_ids};
+ghost use Rattle.realm_story.specs.Family.{Made, is_named, member, above_by, same_ino, birth_of, realm_of, live_ids};
 ghost use Rattle.realm_story.specs.Family.{context as context_told, shown as shown_told};
-ghost use Rattle.journal_realms.specs.Above.{LeadsUp, is_held, birth_at};
+ghost use Rattle.journal_realms.specs.Above.{LeadsUp, IsPlaced, is_held, birth_at};
 ghost use Rattle.journal_realms.specs.Calls.{IsFine};
 ghost use Rattle.journal_realms.specs.Told.{family_of};
 
@@ -35,6 +36,12 @@ pub fn the_way_up_is_the_chain_of_parents()
         → LeadsUp (state_after entries).entries dir (above_by (member (family_of entries).members dir)) }
 {}
 
+/// What has a name is there: below that name's directory where it isn't in the global realm, and else it is a file.
+pub fn what_has_a_name_has_its_place()
+    ensures { (entries : List Entry) → is_journal entries ≡ true
+        → AllByRecursion (IsPlaced (state_after entries).inodes (family_of entries)) (state_after entries).entries }
+{}
+
 /// The realm that contains a file that was made, or a directory that is there.
 pub fn realms_are_the_same()
     ensures { (entries : List Entry) → is_journal entries ≡ true → (x : Ino)
@@ -54,6 +61,22 @@ pub fn names_are_the_same()
     ensures { (entries : List Entry) → is_journal entries ≡ true → (x : Ino)
         → same_ino GLOBAL x ≡ false
         → reverse (shown_told (family_of entries) x) ≡ shown entries x }
+{}
+
+/// The snapshots: which one a name of a directory has, and how many a directory has, and how many there are in all.
+pub fn snapshots_are_the_same()
+    ensures named { (entries : List Entry) → is_journal entries ≡ true → (dir : Ino) (name : List ℕ)
+        → option_map (λ (snap : Snapshot). snap.id) (own_snap (state_after entries).snaps dir name)
+        ≡ option_map (λ (snap : Made). snap.id) (find (is_named dir name) (family_of entries).snaps) }
+    ensures of_one { (entries : List Entry) → is_journal entries ≡ true → (dir : Ino)
+        → length (filter (is_own dir) (state_after entries).snaps)
+        ≡ length (filter (λ (snap : Made). snap.live && same_ino snap.root dir) (family_of entries).snaps) }
+    ensures of_all { (entries : List Entry) → is_journal entries ≡ true
+        → length (filter is_live (state_after entries).snaps)
+        ≡ length (filter (λ (snap : Made). snap.live) (family_of entries).snaps) }
+    ensures rooted { (entries : List Entry) → is_journal entries ≡ true → (dir : Ino)
+        → list_any (is_own dir) (state_after entries).snaps
+        ≡ list_any (λ (snap : Made). snap.live && same_ino snap.root dir) (family_of entries).snaps }
 {}
 
 /// The ids of the snapshots that have a name. The story has the last one first.

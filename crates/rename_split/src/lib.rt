@@ -6,4 +6,4 @@ mod paths;
 mod plan;
 
 pub use error::MoveError;
-pub use plan::{MovePlan, plan_link, plan_move, plan_stray};
+pub use plan::{MovePlan, plan_link, plan_move, plan_new, plan_stray};

@@ -1,8 +1,11 @@
 // Plans of moves.
 ghost use Rattle.std.specs.Prelude.{◌≡◌, true, false, Ok, IfOk, IfErr};
+ghost use Rattle.snap_ids.specs.declared.id.Ino.{Ino as Inode};
+ghost use Rattle.plain_tree.specs.Change.{entry};
+ghost use Rattle.plain_tree.specs.Request.{new_entry};
 ghost use Rattle.realm_story.specs.Family.{Family, is_root, is_in_global as is_in_family_global};
 ghost use Rattle.snap_realm.specs.Tree.{StandsFor, is_in_global, is_there, is_under};
-ghost use Rattle.rename_split.specs.Paths.{IsDirectory};
+ghost use Rattle.rename_split.specs.Paths.{IsDirectory, last_name};
 ghost use Rattle.rename_split.specs.Plans.{IsOf, IsRefused, live, link_of, move_of, opens, stray, stray_of};
 
 use crate::error::MoveError;
@@ -55,6 +58,16 @@ fn stray(global: bool) -> Option<Ino>
     ensures { result ≡ stray global }
 {
     if global { None } else { Some(STRAY) }
+}
+
+/// The directory in which a path's last name can be new. Refused in this order: `BadName` for `/`; what the way to the
+/// directory refuses; `NotDir` where it leads to a file; `BadName`; `Exists`. It takes no memory.
+pub fn plan_new(tree: &DirTree, path: &Path) -> Result<Ino, MoveError>
+    ensures planned { IfOk result (λ dir. (ino : Inode)
+        → new_entry (live tree.now) ino path.now ≡ Ok (entry dir (last_name path.now) ino)) }
+    ensures refused { IfErr result (λ error. (ino : Inode) → IsRefused error (new_entry (live tree.now) ino path.now)) }
+{
+    link_target(tree, path)
 }
 
 /// What a rename comes to. Refused in this order: `BadName` for `/` as either path; what the way to the source refuses;

@@ -1,6 +1,6 @@
 -- What is said of the snapshots that the store still keeps, where they have a name, is what the story says.
 use Rattle.std.specs.Prelude.{find}
-use Rattle.std.proofs.Common.{◌≡◌, ℕ, ◌≤◌, arith, Bool, true, false, ◌||◌, ◌&&◌, cond, leb, List, [], ◌∷◌, length, map, filter, Option, Some, refl, ap, sym, ◌∙◌, bytes_eq}
+use Rattle.std.proofs.Common.{◌≡◌, ℕ, ◌≤◌, arith, Bool, true, false, ◌||◌, ◌&&◌, ◌==◌, cond, leb, List, [], ◌∷◌, length, map, filter, Option, None, Some, refl, ap, sym, ◌∙◌, bytes_eq}
 use Rattle.std.proofs.lemmas.Bool.Decides.{nat_tests}
 use Rattle.std.specs.List.{list_any}
 use Rattle.snap_ids.specs.declared.id.Ino.{Ino}
@@ -13,7 +13,7 @@ use Rattle.realm_story.specs.Stands.{Each, IsRight, plain, plain_kept}
 use Rattle.realm_story.proofs.Contexts.{covers_by}
 use Rattle.snap_realm.specs.Tree.{Tree, StandsFor, has_name}
 use Rattle.snap_realm.specs.Walks.{id_by}
-use Rattle.snap_realm.specs.Refusals.{refusal_by, refusal, refusal_kept, id_named}
+use Rattle.snap_realm.specs.Refusals.{refusal_by, refusal, refusal_kept, id_named, has_id, name_by, name_with}
 
 -- a live snapshot of a directory that has a name
 pub named_law : (dir : Ino) (name : List ℕ) (snaps : List Made) → Each (λ made. made.purged ≡ true → made.live ≡ false) snaps → list_any (has_name dir name) (plain_kept snaps) ≡ list_any (is_named dir name) snaps
@@ -117,3 +117,23 @@ id_is dir name (made ∷ snaps) named = go made.purged (is_named dir name made) 
 -- which snapshot has a name
 pub id_law : (tree : Tree) (family : Family) → StandsFor tree family → (dir : Ino) (name : List ℕ) → id_by (find (has_name dir name) tree.snaps) ≡ id_named dir name family.snaps
 id_law tree family stands dir name = ap (λ s. id_by (find (has_name dir name) s)) stands.snaps_are ∙ id_is dir name family.snaps stands.named
+
+name_is : (id : SnapId) (snaps : List Made) → Each (λ made. made.purged ≡ true → made.live ≡ false) snaps → name_by (find (has_id id) (plain_kept snaps)) ≡ name_with id snaps
+name_is id [] named = refl
+name_is id (made ∷ snaps) named = go made.purged (has_id id (plain made)) refl refl (name_is id snaps named.1)
+  where
+    dead : made.live ≡ false → has_id id (plain made) ≡ false
+    dead h = ap (λ b. b && made.id.0 == id.0) h
+
+    go : (p b : Bool) → made.purged ≡ p → has_id id (plain made) ≡ b → name_by (find (has_id id) (plain_kept snaps)) ≡ name_with id snaps → name_by (find (has_id id) (elim p [ true ↦ plain_kept snaps | false ↦ plain made ∷ plain_kept snaps ])) ≡ cond b (Some (made.root, made.name)) (name_with id snaps)
+    go true true pis bis rest = let never : true ≡ false = sym bis ∙ dead (named.0 pis) in cc
+    go true false pis bis rest = rest
+    go false b pis bis rest = ap (λ t. name_by (cond t (Some (plain made)) (find (has_id id) (plain_kept snaps)))) bis ∙ last b
+      where
+        last : (b : Bool) → name_by (cond b (Some (plain made)) (find (has_id id) (plain_kept snaps))) ≡ cond b (Some (made.root, made.name)) (name_with id snaps)
+        last true = refl
+        last false = rest
+
+-- the name of the snapshot that has an id
+pub name_law : (tree : Tree) (family : Family) → StandsFor tree family → (id : SnapId) → name_by (find (has_id id) tree.snaps) ≡ name_with id family.snaps
+name_law tree family stands id = ap (λ s. name_by (find (has_id id) s)) stands.snaps_are ∙ name_is id family.snaps stands.named

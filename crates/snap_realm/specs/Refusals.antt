@@ -1,5 +1,5 @@
 -- Why a snapshot isn't made, and which one has a name.
-use Rattle.std.specs.Prelude.{ℕ, Bool, ◌&&◌, nat_le, List, [], ◌∷◌, length, filter, if◌then◌else◌, Option, None, Some}
+use Rattle.std.specs.Prelude.{ℕ, Bool, ◌&&◌, ◌==◌, nat_le, List, [], ◌∷◌, length, filter, if◌then◌else◌, Option, None, Some}
 use Rattle.std.specs.List.{list_any}
 use Rattle.snap_ids.specs.declared.id.Ino.{Ino}
 use Rattle.snap_ids.specs.declared.id.SnapId.{SnapId}
@@ -33,3 +33,16 @@ refusal_kept dir name snaps =
 abbrev pub id_named : Ino → List ℕ → List Made → Option SnapId
 id_named dir name [] = None
 id_named dir name (snap ∷ snaps) = if is_named dir name snap then Some snap.id else id_named dir name snaps
+
+-- the directory and the name of the live snapshot that has an id
+abbrev pub name_with : SnapId → List Made → Option (Ino × List ℕ)
+name_with id [] = None
+name_with id (snap ∷ snaps) = if snap.live && snap.id.0 == id.0 then Some (snap.root, snap.name) else name_with id snaps
+
+-- the snapshot is live, and has an id
+abbrev pub has_id : SnapId → Snap → Bool
+has_id id snap = snap.live && snap.id.0 == id.0
+
+abbrev pub name_by : Option Snap → Option (Ino × List ℕ)
+name_by None = None
+name_by (Some snap) = Some (snap.root, snap.name)

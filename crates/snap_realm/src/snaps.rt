@@ -1,9 +1,9 @@
 // The snapshots that the store still keeps.
-ghost use Rattle.std.specs.Prelude.{◌≡◌, ◌&&◌, length, filter, find, map};
+ghost use Rattle.std.specs.Prelude.{◌≡◌, ◌&&◌, length, filter, find, map, option_map};
 ghost use Rattle.std.specs.List.{list_any};
 ghost use Rattle.realm_story.specs.Family.{same_ino};
 ghost use Rattle.realm_story.specs.declared.records.Snap.{Snap as Snapshot};
-ghost use Rattle.snap_realm.specs.Refusals.{refusal_kept};
+ghost use Rattle.snap_realm.specs.Refusals.{refusal_kept, has_id, name_by};
 ghost use Rattle.snap_realm.specs.Tree.{has_name};
 ghost use Rattle.snap_realm.specs.Walks.{unnamed, id_by};
 
@@ -64,6 +64,21 @@ pub(crate) fn id_named(snaps: &[Snap], dir: Ino, name: &Name) -> Option<SnapId>
 {
     let snap = snaps.iter().find(|snap| has_name(snap, dir, name))?;
     Some(snap.id)
+}
+
+// Whether a snapshot is the live one that has an id.
+fn has_id(snap: &Snap, id: SnapId) -> bool
+    ensures { result ≡ has_id id snap.now }
+{
+    snap.live && snap.id.0 == id.0
+}
+
+/// The directory and the name of the live snapshot that has an id.
+pub(crate) fn name_with(snaps: &[Snap], id: SnapId) -> Option<(Ino, &Name)>
+    ensures { option_map (λ named. (named.0, named.1.now)) result ≡ name_by (find (has_id id) snaps.now) }
+{
+    let snap = snaps.iter().find(|snap| has_id(snap, id))?;
+    Some((snap.root, &snap.name))
 }
 
 // A snapshot loses its name, where it is the live one of a directory that has it.

@@ -1,5 +1,5 @@
 // The tree of realms.
-ghost use Rattle.std.specs.Prelude.{◌≡◌, [], None, Some, Err, ◌↔◌, ◌≤◌, ◌<◌, ◌==◌, ◌&&◌, not, true, false, length, map, filter, find, fold, bytes_eq, IsTrue, IfOk, IfErr, OnOk, OnErr, IsErrOf};
+ghost use Rattle.std.specs.Prelude.{◌≡◌, [], None, Some, Err, option_map, ◌↔◌, ◌≤◌, ◌<◌, ◌==◌, ◌&&◌, not, true, false, length, map, filter, find, fold, bytes_eq, IsTrue, IfOk, IfErr, OnOk, OnErr, IsErrOf};
 ghost use Rattle.std.specs.List.{list_any};
 ghost use Rattle.snap_ids.specs.Context.{falls};
 ghost use Rattle.snap_ids.specs.Name.{is_new_snap};
@@ -15,12 +15,12 @@ ghost use Rattle.snap_realm.specs.Tree.{StandsFor, node_at, is_there, is_in_glob
 ghost use Rattle.snap_realm.specs.Tree as records;
 ghost use Rattle.snap_realm.specs.Walks.{id_by};
 ghost use Rattle.snap_realm.specs.Names.{id_in, listed, name_of, is_shown, with_shown};
-ghost use Rattle.snap_realm.specs.Refusals.{refusal, refusal_kept, id_named};
+ghost use Rattle.snap_realm.specs.Refusals.{refusal, refusal_kept, id_named, has_id, name_by, name_with};
 ghost use Rattle.snap_realm.specs.declared.error.RealmError.{RealmError as Refused};
 
 use crate::error::RealmError;
 use crate::names::{id_shown, shown_names};
-use crate::snaps::{id_named, refusal, unname_all};
+use crate::snaps::{id_named, name_with, refusal, unname_all};
 use crate::walk::{
     Nodes, begins, birth, copied, hang, ids_of, infos, is_leaf, is_under, left, nearest, open,
     parent, put, seq, snap, take,
@@ -460,6 +460,50 @@ impl RealmTree {
         open(&mut self.nodes, ino, realm);
         hang(&mut self.nodes, ino, parent);
         Ok(true)
+    }
+
+    // The same by the records.
+    fn refusal_by_records(&self, dir: Ino, name: &Name) -> Option<RealmError>
+        ensures { result ≡ refusal_kept dir name.now self.now.snaps }
+    {
+        refusal(&self.snaps, dir, name)
+    }
+
+    /// Why a snapshot of a directory with this name can't be made now, if it can't: the first of `SnapExists`,
+    /// `TooManySnaps` and `TooManyLive` that applies, as `add_snap` answers it. It takes no memory.
+    pub fn refusal(&self, dir: Ino, name: &Name) -> Option<RealmError>
+        ensures { (family : Family) → StandsFor self.now family → result ≡ refusal dir name.now family.snaps }
+    {
+        self.refusal_by_records(dir, name)
+    }
+
+    // The same by the records.
+    fn own_by_records(&self, dir: Ino, name: &Name) -> Option<SnapId>
+        ensures { result ≡ id_by (find (has_name dir name.now) self.now.snaps) }
+    {
+        id_named(&self.snaps, dir, name)
+    }
+
+    /// The id of a directory's own live snapshot that has a name, the one that `drop_snap` drops. It takes no memory.
+    pub fn own_snap(&self, dir: Ino, name: &Name) -> Option<SnapId>
+        ensures { (family : Family) → StandsFor self.now family → result ≡ id_named dir name.now family.snaps }
+    {
+        self.own_by_records(dir, name)
+    }
+
+    // The same by the records.
+    fn name_by_records(&self, id: SnapId) -> Option<(Ino, &Name)>
+        ensures { option_map (λ named. (named.0, named.1.now)) result ≡ name_by (find (has_id id) self.now.snaps) }
+    {
+        name_with(&self.snaps, id)
+    }
+
+    /// The directory and the name of the live snapshot that has an id. It takes no memory.
+    pub fn name_of(&self, id: SnapId) -> Option<(Ino, &Name)>
+        ensures { (family : Family) → StandsFor self.now family
+            → option_map (λ named. (named.0, named.1.now)) result ≡ name_with id family.snaps }
+    {
+        self.name_by_records(id)
     }
 
     // The same by the records.
