@@ -20,3 +20,9 @@ pub use tables::{
     a_file_has_one_writer, ids_are_given_in_order, one_operation_at_a_time,
     what_is_purged_was_removed,
 };
+
+mod snapshots;
+
+pub use snapshots::{
+    operations_are_as_prepared, snapshot_stamps_never_fall, snapshots_are_made_in_rising_order,
+};
