@@ -32,3 +32,5 @@ mod Delivered
 mod Determined
 mod Strangers
 mod Rises
+mod When
+mod Entered
