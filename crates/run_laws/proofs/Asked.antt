@@ -49,7 +49,7 @@ pub all_first : (n : ℕ) (o : Option (ℕ × Request)) (xs : List Asked) → Al
 all_first n o [] all = tt
 all_first n o (a ∷ xs) all = (all.0, tt)
 
-all_drop : (n : ℕ) (o : Option (ℕ × Request)) (xs : List Asked) → AllOf n o xs → AllOf n o (drop 1 xs)
+pub all_drop : (n : ℕ) (o : Option (ℕ × Request)) (xs : List Asked) → AllOf n o xs → AllOf n o (drop 1 xs)
 all_drop n o [] all = tt
 all_drop n o (a ∷ xs) all = all.1
 

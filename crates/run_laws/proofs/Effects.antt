@@ -15,6 +15,8 @@ use Rattle.step_table.specs.ServerState.{Asked, Server, Told, Answered, Granted,
 use Rattle.step_table.specs.Acts.{Act, TellRecall, TellAck, AnswerIt, GrantIt, MakeEffect, Prepare, TakeOperation, Buffer, act, of_client, as_list, answer_hand, grant_hand, effect_hand, buffer_for, written_down, prepare_hand, entry_for, buffer}
 use Rattle.step_table.specs.Requests.{kept_for}
 use Rattle.run_laws.specs.Requests.{IsIt, OpenAt, AllOf, count, is_of, AllUpTo, AllAbove, AllLess, Rising}
+use Rattle.run_laws.specs.Prepared.{asks_for}
+use Rattle.run_laws.specs.Tables.{is_prepare}
 use Rattle.run_laws.proofs.Acts.{notices_keep}
 
 -- lists of entries
@@ -140,14 +142,18 @@ pub record EffectsAt (n tid : ℕ) (entries : List Entry) (operation : Option As
   pub rising : Rising n entries
   pub new : NewAt n entries operation
 
--- An act fits: it makes an effect where the request in hand has none yet, and what it buffers else is no effect.
+-- An act fits: it makes an effect where the request in hand has none yet, and what it buffers else is no effect. What it
+-- prepares is what the request in hand asks for.
 abbrev pub HandNew : ℕ → Server → Type 0
 HandNew n s = (a : Asked) → s.hand ≡ Some a → of_client n a ≡ true → AllLess n a.tid s.entries
 
+abbrev pub HandAsks : ℕ → What → Server → Type 0
+HandAsks n said s = (a : Asked) → s.hand ≡ Some a → of_client n a ≡ true → asks_for said a.request ≡ true
+
 abbrev pub EffectFits : ℕ → Server → Act → Type 0
 EffectFits n s (MakeEffect change) = HandNew n s
-EffectFits n s (Prepare said) = (change_in said ≡ None) × HandNew n s
-EffectFits n s (Buffer e) = change_in e.what ≡ None
+EffectFits n s (Prepare said) = (change_in said ≡ None) × HandNew n s × HandAsks n said s
+EffectFits n s (Buffer e) = (change_in e.what ≡ None) × (is_prepare e.what ≡ false)
 EffectFits n s a = Unit {0}
 
 tell_effects : (n tid : ℕ) (s : Server) (x : ℕ) (told : Told) → EffectsAt n tid s.entries s.operation → (let t = tell s x told in EffectsAt n tid t.entries t.operation)
@@ -209,7 +215,7 @@ effects_one n tid o s (GrantIt ino mode) fit p was = by_hand s.hand
     by_hand : (h : Option Asked) → (let t = grant_hand s ino mode h in EffectsAt n tid t.entries t.operation)
     by_hand None = was
     by_hand (Some a) = tell_effects n tid (record s { hand = None }) a.client (Granted a.tid ino mode) was
-effects_one n tid o s (Buffer e) fit p was = plain n tid s e fit was
+effects_one n tid o s (Buffer e) fit p was = plain n tid s e fit.0 was
 effects_one n tid o s (Prepare said) fit p was = by_hand s.hand refl
   where
     by_hand : (h : Option Asked) → s.hand ≡ h → (let t = prepare_hand s said h in EffectsAt n tid t.entries t.operation)

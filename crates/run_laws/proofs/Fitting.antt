@@ -131,7 +131,7 @@ look_fit s a said (Ok (SnapsOf dir)) = (tt, tt)
 look_fit s a said (Err refusal) = (tt, tt)
 
 -- The id of a snapshot that a request is said to make is the given one.
-abbrev OkIs : {A : Type 0} → Result A Refusal → (A → Type 0) → Type 0
+abbrev pub OkIs : {A : Type 0} → Result A Refusal → (A → Type 0) → Type 0
 OkIs (Ok a) P = P a
 OkIs (Err refusal) P = Unit {0}
 
@@ -139,27 +139,27 @@ abbrev IsGiven : SnapId → Change → Type 0
 IsGiven id (change.Mksnap given dir name) = given ≡ id
 IsGiven id made = Unit {0}
 
-then_ok : {A B : Type 0} (r : Result A Refusal) (go_on : A → Result B Refusal) (P : B → Type 0) → ((a : A) → OkIs (go_on a) P) → OkIs (and_then_do r go_on) P
+pub then_ok : {A B : Type 0} (r : Result A Refusal) (go_on : A → Result B Refusal) (P : B → Type 0) → ((a : A) → OkIs (go_on a) P) → OkIs (and_then_do r go_on) P
 then_ok (Ok a) go_on P all = all a
 then_ok (Err refusal) go_on P all = tt
 
-directory_ok : {A : Type 0} (k : Kind) (r : Result A Refusal) (P : A → Type 0) → OkIs r P → OkIs (in_directory k r) P
+pub directory_ok : {A : Type 0} (k : Kind) (r : Result A Refusal) (P : A → Type 0) → OkIs r P → OkIs (in_directory k r) P
 directory_ok Dir r P holds = holds
 directory_ok File r P holds = tt
 
-file_ok : {A : Type 0} (k : Kind) (r : Result A Refusal) (P : A → Type 0) → OkIs r P → OkIs (on_file k r) P
+pub file_ok : {A : Type 0} (k : Kind) (r : Result A Refusal) (P : A → Type 0) → OkIs r P → OkIs (on_file k r) P
 file_ok Dir r P holds = tt
 file_ok File r P holds = holds
 
-unless_ok : {A : Type 0} (b : Bool) (e : Refusal) (r : Result A Refusal) (P : A → Type 0) → OkIs r P → OkIs (cond b (Err e) r) P
+pub unless_ok : {A : Type 0} (b : Bool) (e : Refusal) (r : Result A Refusal) (P : A → Type 0) → OkIs r P → OkIs (cond b (Err e) r) P
 unless_ok true e r P holds = tt
 unless_ok false e r P holds = holds
 
-if_ok : {A : Type 0} (b : Bool) (q r : Result A Refusal) (P : A → Type 0) → OkIs q P → OkIs r P → OkIs (cond b q r) P
+pub if_ok : {A : Type 0} (b : Bool) (q r : Result A Refusal) (P : A → Type 0) → OkIs q P → OkIs r P → OkIs (cond b q r) P
 if_ok true q r P one other = one
 if_ok false q r P one other = other
 
-live_ok : (p : Place) (go_on : List (List ℕ) → Result Change Refusal) (P : Change → Type 0) → ((path : List (List ℕ)) → OkIs (go_on path) P) → OkIs (on_live p go_on) P
+pub live_ok : (p : Place) (go_on : List (List ℕ) → Result Change Refusal) (P : Change → Type 0) → ((path : List (List ℕ)) → OkIs (go_on path) P) → OkIs (on_live p go_on) P
 live_ok (Live path) go_on P all = all path
 live_ok (Snaps dir) go_on P all = tt
 live_ok (InSnap dir name below) go_on P all = tt

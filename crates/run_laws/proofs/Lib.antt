@@ -17,6 +17,9 @@ mod Requested
 mod Effects
 mod Plain
 mod Once
+mod Comes
+mod Operations
+mod Makes
 mod Holders
 mod Fitting
 mod Kept
@@ -27,3 +30,7 @@ mod Outgoing
 mod Carried
 mod Delivered
 mod Determined
+mod Strangers
+mod Rises
+mod When
+mod Entered

@@ -44,7 +44,9 @@ use Rattle.run_laws.proofs.Clients.{Keeps, Begins, Acts, ActsNow, op_acts, flush
 use Rattle.run_laws.proofs.Told.{ToldRow, IsAnswer, told_row}
 use Rattle.run_laws.proofs.Linked.{in_hand, if_row, at_start, first_link, each_part}
 use Rattle.run_laws.proofs.Requested.{Asking, asking, first_requested}
-use Rattle.run_laws.proofs.Effects.{last_from, upto_more, new_less, NewAt, EffectsAt, HandNew, EffectFits, Places, effects_one, effects_survive}
+use Rattle.run_laws.proofs.Effects.{last_from, upto_more, new_less, NewAt, EffectsAt, HandNew, HandAsks, EffectFits, Places, effects_one, effects_survive}
+use Rattle.run_laws.proofs.Fitting.{OkIs}
+use Rattle.run_laws.proofs.Comes.{MadeBy, comes_to}
 use Rattle.run_laws.proofs.Plain.{IsPlain, AllPlain, plain_cap, plain_look, plain_barrier, plain_flush, plain_drop, plain_back, plain_reported, plain_restarts, plain_turn}
 use Rattle.run_laws.proofs.Views.{Client's, run_keeps}
 use Rattle.run_laws.proofs.ViewActs.{KeptViews, RulesFit, rows_of_acts, accepted, both, given}
@@ -55,7 +57,7 @@ Effects n c up down s = EffectsAt n c.tid s.entries s.operation
 abbrev pub Whole : View
 Whole n c up down s = Asking n c up down s × Effects n c up down s
 
-abbrev FitsFor : ℕ → Client → Server → Act → Type 0
+abbrev pub FitsFor : ℕ → Client → Server → Act → Type 0
 FitsFor n c s a = EffectFits n s a
 
 -- the client's rows
@@ -97,7 +99,7 @@ effects = record {
   survives = λ n c up down s k fits all. effects_survive n c.tid (s.durable + k) s.entries s.operation all.1;
 }
 
-whole : KeptViews FitsFor Whole Whole
+pub whole : KeptViews FitsFor Whole Whole
 whole = both (given (λ n c up down s all. all.0) (λ n c s a fit. tt) asking) effects
 
 -- plain rules
@@ -112,7 +114,7 @@ plain_fit n c s [] all = tt
 plain_fit n c s (a ∷ list) all = (plain_fits n s a all.0, plain_fit n c (act s a) list all.1)
 
 -- the request in hand is of this client, if there is one
-abbrev HandOf : Server → ℕ → Type 0
+abbrev pub HandOf : Server → ℕ → Type 0
 HandOf s x = (b : Asked) → s.hand ≡ Some b → b.client ≡ x
 
 abbrev IfIt : ℕ → Client → Asked → Type 0
@@ -146,40 +148,57 @@ hand_new n c up down s a all of it none b is mine_b = subst (λ (t : ℕ). AllLe
     kept : kept_for c.tid (last_effect s.entries n) ≡ None
     kept = subst (λ (t : ℕ). kept_for t (last_effect s.entries n) ≡ None) last (subst (λ (x : ℕ). kept_for a.tid (last_effect s.entries x) ≡ None) same none)
 
+-- and it asks what is treated
+abbrev HandIs : ℕ → Request → Server → Type 0
+HandIs n asked s = (b : Asked) → s.hand ≡ Some b → of_client n b ≡ true → b.request ≡ asked
+
+hand_is : (n : ℕ) (c : Client) (up : List ToServer) (down : List ToClient) (s : Server) (a : Asked) → Whole n c up down s → HandOf s a.client → IfIt n c a → HandIs n a.request s
+hand_is n c up down s a all of it b is mine_b = same_request (open_request c.under) b a (in_it.0 mine_b) (it (subst (λ (x : ℕ). (x == n) ≡ true) (of b is) mine_b))
+  where
+    same_request : (o : Option (ℕ × Request)) (b a : Asked) → IsIt o b.tid b.request → IsIt o a.tid a.request → b.request ≡ a.request
+    same_request None b a here other = absurd here
+    same_request (Some r) b a here other = here.1 ∙ sym other.1
+
+    in_it : AllOf n (open_request c.under) (b ∷ [])
+    in_it = subst (λ (h : Option Asked). AllOf n (open_request c.under) (as_list h)) is all.0.1.in_hand
+
+abbrev HandMade : ℕ → Change → Server → Type 0
+HandMade n made s = (b : Asked) → s.hand ≡ Some b → of_client n b ≡ true → MadeBy b.request made
+
 -- a change that succeeds
-prepare_fit : (n : ℕ) (c : Client) (s : Server) (alone : Bool) (said : What) → change_in said ≡ None → HandNew n s → Fit (FitsFor n c) s (prepare alone s said)
-prepare_fit n c s alone said none new = by_test (is_busy alone s)
+prepare_fit : (n : ℕ) (c : Client) (s : Server) (alone : Bool) (said : What) → change_in said ≡ None → HandNew n s → HandAsks n said s → Fit (FitsFor n c) s (prepare alone s said)
+prepare_fit n c s alone said none new asks = by_test (is_busy alone s)
   where
     by_test : (b : Bool) → Fit (FitsFor n c) s (cond b (Defer ∷ []) (Prepare said ∷ []))
     by_test true = (tt, tt)
-    by_test false = ((none, new), tt)
+    by_test false = ((none, new, asks), tt)
 
-make_fit : (n : ℕ) (c : Client) (s : Server) (alone : Bool) (made : Change) → HandNew n s → Fit (FitsFor n c) s (make alone s made)
-make_fit n c s alone (change.Mksnap id dir name) new = prepare_fit n c s alone (PrepareCreate id) refl new
-make_fit n c s alone (change.Rmsnap id) new = prepare_fit n c s alone (PrepareDestroy id) refl new
-make_fit n c s alone made new = (new, (tt, tt))
+make_fit : (n : ℕ) (c : Client) (s : Server) (alone : Bool) (made : Change) → HandNew n s → HandMade n made s → Fit (FitsFor n c) s (make alone s made)
+make_fit n c s alone (change.Mksnap id dir name) new by = prepare_fit n c s alone (PrepareCreate id) refl new by
+make_fit n c s alone (change.Rmsnap id) new by = prepare_fit n c s alone (PrepareDestroy id) refl new by
+make_fit n c s alone made new by = (new, (tt, tt))
 
-decided_fit : (n : ℕ) (c : Client) (s : Server) (alone : Bool) (o : Option (Result Change Refusal)) → HandNew n s → Fit (FitsFor n c) s (decided alone s o)
-decided_fit n c s alone None new = tt
-decided_fit n c s alone (Some (Err refusal)) new = (tt, tt)
-decided_fit n c s alone (Some (Ok made)) new = make_fit n c s alone made new
+decided_fit : (n : ℕ) (c : Client) (s : Server) (alone : Bool) (asked : Request) (o : Option (Result Change Refusal)) → HandNew n s → HandIs n asked s → IfSome o (λ (r : Result Change Refusal). OkIs r (MadeBy asked)) → Fit (FitsFor n c) s (decided alone s o)
+decided_fit n c s alone asked None new same by = tt
+decided_fit n c s alone asked (Some (Err refusal)) new same by = (tt, tt)
+decided_fit n c s alone asked (Some (Ok made)) new same by = make_fit n c s alone made new (λ b is mine_b. subst (λ (r : Request). MadeBy r made) (sym (same b is mine_b)) by)
 
-new_fit : (n : ℕ) (c : Client) (s : Server) (alone : Bool) (a : Asked) (asked : Request) → HandNew n s → Fit (FitsFor n c) s (treat_new alone s a asked)
-new_fit n c s alone a (request.Cap ino mode) new = plain_fit n c s _ (plain_cap s a.client ino mode (GrantIt ino mode) tt)
-new_fit n c s alone a (request.Cat path) new = plain_fit n c s _ (plain_look s a (answer_to s.entries (query.Cat path)) (found s.entries path))
-new_fit n c s alone a (request.Stat path) new = plain_fit n c s _ (plain_look s a (answer_to s.entries (query.Stat path)) (found s.entries path))
-new_fit n c s alone a (request.List path) new = (tt, tt)
-new_fit n c s alone a (request.Realm path) new = (tt, tt)
-new_fit n c s alone a (request.Clones path index) new = (tt, tt)
-new_fit n c s alone a (request.Barrier number) new = plain_fit n c s _ (plain_barrier s number)
-new_fit n c s alone a asked new = decided_fit n c s alone (change_asked (state_after s.entries) a.client (next_id s) asked) new
+new_fit : (n : ℕ) (c : Client) (s : Server) (alone : Bool) (a : Asked) (asked : Request) → HandNew n s → HandIs n asked s → Fit (FitsFor n c) s (treat_new alone s a asked)
+new_fit n c s alone a (request.Cap ino mode) new same = plain_fit n c s _ (plain_cap s a.client ino mode (GrantIt ino mode) tt)
+new_fit n c s alone a (request.Cat path) new same = plain_fit n c s _ (plain_look s a (answer_to s.entries (query.Cat path)) (found s.entries path))
+new_fit n c s alone a (request.Stat path) new same = plain_fit n c s _ (plain_look s a (answer_to s.entries (query.Stat path)) (found s.entries path))
+new_fit n c s alone a (request.List path) new same = (tt, tt)
+new_fit n c s alone a (request.Realm path) new same = (tt, tt)
+new_fit n c s alone a (request.Clones path index) new same = (tt, tt)
+new_fit n c s alone a (request.Barrier number) new same = plain_fit n c s _ (plain_barrier s number)
+new_fit n c s alone a asked new same = decided_fit n c s alone asked (change_asked (state_after s.entries) a.client (next_id s) asked) new same (comes_to (state_after s.entries) a.client (next_id s) asked)
 
 treat_fit : (n : ℕ) (c : Client) (up : List ToServer) (down : List ToClient) (s : Server) (alone : Bool) (a : Asked) → Whole n c up down s → HandOf s a.client → IfIt n c a → Fit (FitsFor n c) s (treat alone s a)
 treat_fit n c up down s alone a all of it = by_test (all_connected s)
   where
     by_operation : (b : Bool) → kept_answer s a ≡ None → Fit (FitsFor n c) s (cond b [] (treat_new alone s a a.request))
     by_operation true none = tt
-    by_operation false none = new_fit n c s alone a a.request (hand_new n c up down s a all of it none)
+    by_operation false none = new_fit n c s alone a a.request (hand_new n c up down s a all of it none) (hand_is n c up down s a all of it)
 
     by_kept : (o : Option Answer) → kept_answer s a ≡ o → Fit (FitsFor n c) s (treat_known alone s a o)
     by_kept (Some said) is = (tt, tt)
@@ -190,7 +209,7 @@ treat_fit n c up down s alone a all of it = by_test (all_connected s)
     by_test false = (tt, tt)
 
 -- the held requests
-first_client : (x : ℕ) (list : List Asked) (b : Asked) → first_of (filter (of_client x) list) ≡ Some b → b.client ≡ x
+pub first_client : (x : ℕ) (list : List Asked) (b : Asked) → first_of (filter (of_client x) list) ≡ Some b → b.client ≡ x
 first_client x [] b is = cc
 first_client x (a ∷ list) b is = by_test (of_client x a) refl is (first_client x list b)
   where
@@ -208,7 +227,7 @@ anew_fit n c up down (a ∷ list) s all it =
     (anew_fit n c up down list (acts s (TakeHeld a.client ∷ treat false t a)) (acts_keep {F = FitsFor n c} {Q = Whole n c up down} (whole.one n c up down) (TakeHeld a.client ∷ treat false t a) s fit all) it.1)
 
 -- a request that comes in
-hand_of : (s : Server) (a b : Asked) (d : Bool) → cond d None (Some a) ≡ Some b → b.client ≡ a.client
+pub hand_of : (s : Server) (a b : Asked) (d : Bool) → cond d None (Some a) ≡ Some b → b.client ≡ a.client
 hand_of s a b true is = cc
 hand_of s a b false is = let same : a ≡ b = cc in ap (λ (x : Asked). x.client) (sym same)
 
@@ -224,12 +243,12 @@ brings_fit n c up down s x conn (Some r) all is =
 -- the server's turn
 finish_fit : (n : ℕ) (c : Client) (s : Server) (id : SnapId) (o : Option (Result Change Refusal)) → HandNew n s → Fit (FitsFor n c) s (finish id o)
 finish_fit n c s id None new = tt
-finish_fit n c s id (Some (Err refusal)) new = (refl, (tt, tt))
+finish_fit n c s id (Some (Err refusal)) new = ((refl, refl), (tt, tt))
 finish_fit n c s id (Some (Ok made)) new = by_made made
   where
     by_test : (now : SnapId) (b : Bool) → Fit (FitsFor n c) s (cond b (MakeEffect (change.Rmsnap now) ∷ AnswerIt answer.Done ∷ []) (roll_back id ∷ DeferFirst ∷ []))
     by_test now true = (new, (tt, tt))
-    by_test now false = (refl, (tt, tt))
+    by_test now false = ((refl, refl), (tt, tt))
 
     by_made : (made : Change) → Fit (FitsFor n c) s (finish_with id made)
     by_made (change.Rmsnap now) = by_test now (now.0 == id.0)
@@ -274,7 +293,7 @@ turn_fit n c up down s all = by_test (all_connected s)
     by_test true = by_outstanding (outstanding s.entries)
     by_test false = tt
 
-rules : RulesFit FitsFor Whole
+pub rules : RulesFit FitsFor Whole
 rules = record {
   anew = λ n c up down s all. anew_fit n c up down s.held s all all.0.1.in_held;
   asks = λ n c conn tid asked up down s is all. treat_fit n c up down (take_in s (asked_by n tid asked)) false (asked_by n tid asked) (whole.asks n c conn tid asked up down s is all) (λ b at. hand_of s (asked_by n tid asked) b (is_operation s (asked_by n tid asked)) at) (λ mine_it. all.0.1.up.0);

@@ -29,12 +29,13 @@ use Rattle.step_table.specs.Requests.{by_kind, settled_answer, look_at, at_barri
 use Rattle.step_table.specs.Flushes.{flush_entry, flush_settles, take_flush, on_flush, on_drop, claimed, take_claim, take_brought, come_back}
 use Rattle.step_table.specs.Background.{holders_of, is_due, first_file, first_barrier, waits_at, is_finished, open_to, turn_barrier, turn_dead, turn_purge}
 use Rattle.step_table.specs.ServerRows.{reported, restarts, roll_back_from}
+use Rattle.run_laws.specs.Tables.{is_prepare}
 
--- an act that makes no effect of a request
+-- an act that makes no effect of a request, and prepares none
 abbrev pub IsPlain : Act → Type 0
 IsPlain (MakeEffect change) = ⊥
 IsPlain (Prepare said) = ⊥
-IsPlain (Buffer e) = change_in e.what ≡ None
+IsPlain (Buffer e) = (change_in e.what ≡ None) × (is_prepare e.what ≡ false)
 IsPlain a = Unit {0}
 
 abbrev pub AllPlain : List Act → Type 0
@@ -97,6 +98,13 @@ flush_none f = by_test f.release
     by_test true = refl
     by_test false = refl
 
+flush_not : (f : FlushMsg) → is_prepare (flush_entry f) ≡ false
+flush_not f = by_test f.release
+  where
+    by_test : (b : Bool) → is_prepare (cond b (what.Release f.ino f.follows f.size) (what.Settle f.ino f.follows f.upto f.size)) ≡ false
+    by_test true = refl
+    by_test false = refl
+
 settles_plain : (x : ℕ) (f : FlushMsg) → IsPlain (flush_settles x f)
 settles_plain x f = by_test f.release
   where
@@ -105,7 +113,7 @@ settles_plain x f = by_test f.release
     by_test false = tt
 
 plain_take : (x : ℕ) (s : Server) (f : FlushMsg) → AllPlain (take_flush x s f)
-plain_take x s f = plain_if (nat_le f.number (last_flush s.entries x)) [] _ tt (flush_none f, (settles_plain x f, tt))
+plain_take x s f = plain_if (nat_le f.number (last_flush s.entries x)) [] _ tt ((flush_none f, flush_not f), (settles_plain x f, tt))
 
 pub plain_flush : (x : ℕ) (s : Server) (f : FlushMsg) → AllPlain (on_flush x s f)
 plain_flush x s f = plain_append (take_flush x s f) (TellAck x f.number ∷ []) (plain_take x s f) (tt, tt)
@@ -125,8 +133,8 @@ plain_back s x said flushes = let t = acts s (LetAllGo x ∷ []) in
 
 -- the store and the server's own time
 pub plain_reported : (s : Server) (m : ToServer) → AllPlain (reported s m)
-plain_reported s (Purged id) = plain_if (is_listed id (to_purge s.entries)) _ [] (refl, tt) tt
-plain_reported s (Deleted ino) = plain_if (list_any (same_ino ino) (dead s.entries)) _ [] (refl, tt) tt
+plain_reported s (Purged id) = plain_if (is_listed id (to_purge s.entries)) _ [] ((refl, refl), tt) tt
+plain_reported s (Deleted ino) = plain_if (list_any (same_ino ino) (dead s.entries)) _ [] ((refl, refl), tt) tt
 plain_reported s (Connect conn said flushes asked) = tt
 plain_reported s (Ask conn tid asked) = tt
 plain_reported s (Flush conn f) = tt
@@ -141,10 +149,10 @@ plain_restarts s = plain_append (map TellRestart (up_to s.clients)) (roll_back_f
 
     rolled : (o : Option (SnapId × ℕ)) → AllPlain (roll_back_from o)
     rolled None = tt
-    rolled (Some o) = (refl, tt)
+    rolled (Some o) = ((refl, refl), tt)
 
 pub plain_turn : (s : Server) (o : Option SnapId) → IfSome (turn_purge s o) AllPlain
-plain_turn s (Some id) = (refl, (tt, tt))
+plain_turn s (Some id) = ((refl, refl), (tt, tt))
 plain_turn s None = by_file (first_file (filter (is_due s) (dead s.entries)))
   where
     if_some : (b : Bool) (list : List Act) → AllPlain list → IfSome (cond b (Some list) None) AllPlain
@@ -153,7 +161,7 @@ plain_turn s None = by_file (first_file (filter (is_due s) (dead s.entries)))
 
     by_barrier : (o : Option ℕ) → IfSome (turn_barrier s o) AllPlain
     by_barrier None = tt
-    by_barrier (Some number) = if_some (list_all (waits_at s number) (up_to s.clients) && is_finished s) _ (refl, plain_flat open_to (λ x. (tt, (tt, tt))) (up_to s.clients))
+    by_barrier (Some number) = if_some (list_all (waits_at s number) (up_to s.clients) && is_finished s) _ ((refl, refl), plain_flat open_to (λ x. (tt, (tt, tt))) (up_to s.clients))
 
     by_file : (o : Option Ino) → IfSome (turn_dead s o) AllPlain
     by_file None = by_barrier (first_barrier s.held)

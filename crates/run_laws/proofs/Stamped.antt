@@ -128,7 +128,7 @@ never_from n (event ∷ history) w legal alone mailed low less =
         away : (event.node == 0) ≡ false
         away = grind (arith, nat_tests, not_it)
 
-start_mailed : (script : Script) → Mailed (start script).server
+pub start_mailed : (script : Script) → Mailed (start script).server
 start_mailed script = record { low = omega arith; fits = omega arith; waiting = tt }
 
 pub stamps_law : (script : Script) (history : List Event) → Legal history script → (n : ℕ) → NeverFall 0 (map entry_of (sent_to n history))
@@ -168,7 +168,7 @@ all_plain entries (m ∷ sent) all = by_message m.message (all_plain entries sen
     by_message (message.ToStore order) go all = go all
     by_message (message.FromStore said) go all = go all
 
-event_stamps : (w : World) (event : Event) → LegalFrom w (event ∷ []) → NoClient w → Mailed w.server → event.node ≡ 0 → AllStampsOf (journal (after w (event.step ∷ []))) (told_in event.sent)
+pub event_stamps : (w : World) (event : Event) → LegalFrom w (event ∷ []) → NoClient w → Mailed w.server → event.node ≡ 0 → AllStampsOf (journal (after w (event.step ∷ []))) (told_in event.sent)
 event_stamps w event legal alone mailed at = by_row (row w event.step) (served mailed_gives w event.step alone mailed) legal
   where
     by_row : (o : Option Made) → IfSome o (Served (HandedOut (is_restart event.step)) w) → (elim o as (λ x. Type 0) [ None ↦ ⊥ | Some made ↦ IsEventOf event made × LegalFrom made.world [] ]) → AllStampsOf (journal (after_row w o)) (told_in event.sent)

@@ -20,3 +20,11 @@ pub use tables::{
     a_file_has_one_writer, ids_are_given_in_order, one_operation_at_a_time,
     what_is_purged_was_removed,
 };
+
+mod entries;
+mod snapshots;
+
+pub use entries::what_is_entered_is_a_journal;
+pub use snapshots::{
+    operations_are_as_prepared, snapshot_stamps_never_fall, snapshots_are_made_in_rising_order,
+};
