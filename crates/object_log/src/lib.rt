@@ -5,6 +5,7 @@
 mod examples;
 
 pub use examples::{
-    a_clone_outlives_its_greatest_id, a_cut_leaves_zeros, a_purge_takes_a_clone,
-    a_second_object_is_cloned_alone, an_object_without_a_head_is_not_cloned,
+    a_clone_outlives_its_greatest_id, a_cut_leaves_zeros, a_late_message_is_not_served,
+    a_purge_takes_a_clone, a_second_object_is_cloned_alone, an_object_without_a_head_is_not_cloned,
+    what_is_not_listed_is_not_served,
 };
