@@ -78,6 +78,17 @@ read_after o head gone context s r h g l late =
         (listed_news context.ids s o.seq (λ q. not (gone q)) e (ap not g) l)
     go false e = ap or_empty (found_old o.head (news gone o.seq context) o.clones s o.seq context.seq.0 h (lt_not o.seq s.0 e))
 
+-- the ids that are news to an object are those that the log says, and none of them was purged
+pub news_same : (l : log.Object) (gone : SnapId → Bool) (o : Plain) (context : Context) → o.seq ≡ l.seq → ((s : SnapId) → is_listed s l.purged ≡ gone s)
+    → news gone o.seq context ≡ log.news l.seq l.purged context
+news_same l gone o context seq purged = ap (λ (g : SnapId → Bool). news g o.seq context) (λ i s. sym (purged s) i)
+    ∙ ap (λ n. filter (λ (s : SnapId). nat_lt n s.0 && not (is_listed s l.purged)) context.ids) seq
+
+pub news_all : (l : log.Object) (gone : SnapId → Bool) (o : Plain) (context : Context) → ((s : SnapId) → is_listed s l.purged ≡ gone s)
+    → filter (λ (s : SnapId). not (is_listed s l.purged)) (news gone o.seq context) ≡ news gone o.seq context
+news_all l gone o context purged = ap (λ (g : SnapId → Bool). filter (λ (s : SnapId). not (g s)) (news gone o.seq context)) (λ i s. purged s i)
+    ∙ filter_twice (λ s. nat_lt o.seq s.0) (λ s. not (gone s)) context.ids
+
 -- an object after a message that changes its file
 pub edited_is : (size : ℕ) (l : log.Object) (byte more : (Context → Bool) → ℕ → ℕ) (cs : List Context) (gone : SnapId → Bool) (o : Plain)
     (context : Context) (after : Option (Option (List ℕ))) (change : ℕ → ℕ → ℕ)
@@ -130,16 +141,11 @@ edited_is size l byte more cs gone o context (Some head) change is f t grows edi
     ids : List SnapId
     ids = news gone o.seq context
 
-    listed_gone : (s : SnapId) → is_listed s l.purged ≡ gone s
-    listed_gone = is.purged
-
     same : ids ≡ log.news l.seq l.purged context
-    same = ap (λ (g : SnapId → Bool). news g o.seq context) (λ i s. sym (listed_gone s) i)
-        ∙ ap (λ n. filter (λ (s : SnapId). nat_lt n s.0 && not (is_listed s l.purged)) context.ids) is.seq
+    same = news_same l gone o context is.seq is.purged
 
     all : filter (λ (s : SnapId). not (is_listed s l.purged)) ids ≡ ids
-    all = ap (λ (g : SnapId → Bool). filter (λ (s : SnapId). not (g s)) ids) (λ i s. listed_gone s i)
-        ∙ filter_twice (λ s. nat_lt o.seq s.0) (λ s. not (gone s)) context.ids
+    all = news_all l gone o context is.purged
 
     heads : Heads o.seq context.seq.0 ids
     heads = heads_news context.ids o.seq context.seq.0 (λ s. not (gone s)) f t

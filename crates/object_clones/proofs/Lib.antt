@@ -10,6 +10,7 @@ pub mod Found
 pub mod Lists
 pub mod News
 pub mod Follows
+pub mod Served
 pub mod Stores
 pub mod Edits
 pub mod Taken

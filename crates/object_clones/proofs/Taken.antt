@@ -1,6 +1,6 @@
 -- A store that stands for some messages, after one more.
-use Rattle.std.proofs.Common.{◌≡◌, ℕ, ◌+◌, ◌*◌, ◌<◌, Bool, true, false, not, ◌||◌, eqb, nat_lt, List, [], ◌∷◌, ◌++◌, length, get_or, Option, None, Some, if◌then◌else◌, sym, ◌∙◌, refl, ap, subst, arith, append-nil}
-use Rattle.std.specs.List.{cons_option}
+use Rattle.std.proofs.Common.{◌≡◌, ℕ, ◌+◌, ◌*◌, ◌<◌, Bool, true, false, not, ◌||◌, eqb, nat_lt, List, [], ◌∷◌, ◌++◌, length, map, get_or, Option, None, Some, if◌then◌else◌, sym, ◌∙◌, refl, ap, subst, arith, append-nil}
+use Rattle.std.specs.List.{cons_option, filter_map}
 use Rattle.std.specs.Option.{option_map}
 use Rattle.std.proofs.lemmas.List.Sums.{fold_push}
 use Rattle.std.proofs.lemmas.List.Folds.{list_any-append}
@@ -15,17 +15,19 @@ use Rattle.object_log.specs.Bytes.{byte_after, byte_of, purges, was_purged, laid
 use Rattle.object_log.specs.Objects.{object_after, object_of, touch, touched, purged_after, never}
 use Rattle.object_log.specs.Objects as log
 use Rattle.object_log.specs.Reads.{context_for, contexts_for}
+use Rattle.object_log.specs.Serves.{Place, place_after, nothing_there, place_of, still_kept, still_there}
 use Rattle.object_clones.specs.declared.object.Edit.{Edit}
 use Rattle.object_clones.specs.declared.object.Edit.TheVariants as edit
 use Rattle.object_clones.specs.Bytes.{or_empty}
 use Rattle.object_clones.specs.Objects.{Plain, head_after, edited, changed, purged}
 use Rattle.object_clones.specs.Purged.{has_id}
 use Rattle.object_clones.specs.Store.{Shown, object_at, SameStore, EditsFile, PurgesSnapshot}
-use Rattle.object_clones.specs.Stands.{IsObject, StandsFor}
+use Rattle.object_clones.specs.Stands.{IsObject, StandsFor, kept_at}
 use Rattle.object_clones.proofs.Clones.{if_true, if_false}
 use Rattle.object_clones.proofs.Decided.{eqb_swap, or_false, and_front, and_back, not_true}
 use Rattle.object_clones.proofs.News.{Starts}
 use Rattle.object_clones.proofs.Follows.{head_then, next_of, touch_of, edited_is, purged_is}
+use Rattle.object_clones.proofs.Served.{place_object, place_byte, there_after, kept_edited, kept_after_purge}
 use Rattle.object_clones.proofs.Edits.{bytes_written, touch_written, bytes_cut, touch_cut, bytes_deleted}
 
 -- a message changes a file as an edit does
@@ -98,6 +100,7 @@ same_stands old new size taken same stands = record {
       let P : Plain → Type 0 = λ o. IsObject size (object_of size taken f index) (λ counts j. byte_of taken f counts (index * size + j))
       (contexts_for f taken) (λ s. was_purged s taken) o in
       subst P (sym (same.objects f.0 index)) (stands.objects f index);
+  kept = λ f index j h. ap (λ (o : Plain). map (kept_at j) o.clones) (same.objects f.0 index) ∙ stands.kept f index j h;
 }
 
 purged_more : (s : SnapId) (taken : List ToStore) (m : ToStore) → was_purged s (taken ++ m ∷ []) ≡ (was_purged s taken || (purges s m || false))
@@ -112,6 +115,23 @@ starts_within context w = go context.ids (and_back (falls context.ids) (not (beg
     go : (ids : List SnapId) → not (begins_above context.seq ids) ≡ true → Starts context.seq.0 ids
     go [] h = tt
     go (s ∷ ids) h = not_true context.seq.0 s.0 h
+
+-- an object of a message's file, and one of another file, after the message
+edited_object : (old new : Shown) (size : ℕ) (taken : List ToStore) (ino : Ino) (e : Edit) (context : Context) → EditsFile old new ino e context
+    → StandsFor old size taken → (f : Ino) (index : ℕ) → eqb ino.0 f.0 ≡ true → object_at new f.0 index
+    ≡ changed context.seq.0 (next_of (λ s. was_purged s taken) context (object_at old f.0 index) (head_after (index * size) size e (object_at old f.0 index).head)) (object_at old f.0 index)
+edited_object old new size taken ino e context edits stands f index t =
+    let o : Plain = object_at old f.0 index in
+    let has_is : (λ s. has_id old.purged s) ≡ (λ s. was_purged s taken) = λ i s. stands.purged s i in
+    edits.objects f.0 index ∙ if_true (eqb f.0 ino.0) (edited (has_id old.purged) (index * old.size) old.size e context o) o (eqb_swap f.0 ino.0 ∙ t)
+    ∙ ap (λ n. edited (has_id old.purged) (index * n) n e context o) stands.of_size
+    ∙ ap (λ (g : SnapId → Bool). edited g (index * size) size e context o) has_is
+
+other_object : (old new : Shown) (ino : Ino) (e : Edit) (context : Context) → EditsFile old new ino e context → (f : Ino) (index : ℕ) → eqb ino.0 f.0 ≡ false
+    → object_at new f.0 index ≡ object_at old f.0 index
+other_object old new ino e context edits f index t =
+    let o : Plain = object_at old f.0 index in
+    edits.objects f.0 index ∙ if_false (eqb f.0 ino.0) (edited (has_id old.purged) (index * old.size) old.size e context o) o (eqb_swap f.0 ino.0 ∙ t)
 
 -- the object of a message's file
 object_here : (old new : Shown) (size : ℕ) (taken : List ToStore) (m : ToStore) (ino : Ino) (e : Edit) (context : Context) (change : ℕ → ℕ → ℕ)
@@ -142,11 +162,8 @@ object_here old new size taken m ino e context change says w edits stands f inde
     let cs_is : contexts_for f (taken ++ m ∷ []) ≡ cs ++ context ∷ [] =
     filter_map-append (context_for f) taken (m ∷ []) ∙ ap (λ c. cs ++ cons_option c []) (says.knows f t) in
     let gone_is : (λ s. was_purged s (taken ++ m ∷ [])) ≡ gone = λ i s. same_purged s taken m (says.purges_none s) i in
-    let has_is : (λ s. has_id old.purged s) ≡ gone = λ i s. stands.purged s i in
     let o_is : object_at new f.0 index ≡ changed context.seq.0 (next_of gone context o after) o =
-    edits.objects f.0 index ∙ if_true (eqb f.0 ino.0) (edited (has_id old.purged) (index * old.size) old.size e context o) o (eqb_swap f.0 ino.0 ∙ t)
-    ∙ ap (λ n. edited (has_id old.purged) (index * n) n e context o) stands.of_size
-    ∙ ap (λ (g : SnapId → Bool). edited g low size e context o) has_is in
+    edited_object old new size taken ino e context edits stands f index t in
     let P1 : log.Object → Type 0 = λ x. IsObject size x more (cs ++ context ∷ []) gone (changed context.seq.0 (next_of gone context o after) o) in
     let P2 : List Context → Type 0 = λ x. IsObject size (object_of size (taken ++ m ∷ []) f index) more x gone (changed context.seq.0 (next_of gone context o after) o) in
     let P3 : (SnapId → Bool) → Type 0 = λ x. IsObject size (object_of size (taken ++ m ∷ []) f index) more (contexts_for f (taken ++ m ∷ [])) x
@@ -177,14 +194,50 @@ object_there old new size taken m ino e context change says edits stands f index
     let cs_is : contexts_for f (taken ++ m ∷ []) ≡ cs =
     filter_map-append (context_for f) taken (m ∷ []) ∙ ap (λ c. cs ++ cons_option c []) (says.ignores f t) ∙ append-nil cs in
     let gone_is : (λ s. was_purged s (taken ++ m ∷ [])) ≡ gone = λ i s. same_purged s taken m (says.purges_none s) i in
-    let o_is : object_at new f.0 index ≡ o =
-    edits.objects f.0 index ∙ if_false (eqb f.0 ino.0) (edited (has_id old.purged) (index * old.size) old.size e context o) o (eqb_swap f.0 ino.0 ∙ t) in
+    let o_is : object_at new f.0 index ≡ o = other_object old new ino e context edits f index t in
     let P0 : ((Context → Bool) → ℕ → ℕ) → Type 0 = λ x. IsObject size l x cs gone o in
     let P1 : log.Object → Type 0 = λ x. IsObject size x more cs gone o in
     let P2 : List Context → Type 0 = λ x. IsObject size (object_of size (taken ++ m ∷ []) f index) more x gone o in
     let P3 : (SnapId → Bool) → Type 0 = λ x. IsObject size (object_of size (taken ++ m ∷ []) f index) more (contexts_for f (taken ++ m ∷ [])) x o in
     let P4 : Plain → Type 0 = λ x. IsObject size (object_of size (taken ++ m ∷ []) f index) more (contexts_for f (taken ++ m ∷ [])) (λ s. was_purged s (taken ++ m ∷ [])) x in
     subst P4 (sym o_is) (subst P3 (sym gone_is) (subst P2 (sym cs_is) (subst P1 (sym l_is) (subst P0 (sym byte_is) is))))
+
+-- what the clones of a message's file keep at a place
+kept_here : (old new : Shown) (size : ℕ) (taken : List ToStore) (m : ToStore) (ino : Ino) (e : Edit) (context : Context) (change : ℕ → ℕ → ℕ)
+    → Says m ino e context change → EditsFile old new ino e context → StandsFor old size taken
+    → (f : Ino) (index j : ℕ) → j < size → eqb ino.0 f.0 ≡ true
+    → map (kept_at j) (object_at new f.0 index).clones ≡ still_there (place_of size (taken ++ m ∷ []) f index (index * size + j))
+kept_here old new size taken m ino e context change says edits stands f index j h t =
+    let low = index * size in
+    let o : Plain = object_at old f.0 index in
+    let l : log.Object = object_of size taken f index in
+    let p : Place = place_of size taken f index (low + j) in
+    let gone : SnapId → Bool = λ s. was_purged s taken in
+    let byte : (Context → Bool) → ℕ → ℕ = λ counts i. byte_of taken f counts (low + i) in
+    let is : IsObject size l byte (contexts_for f taken) gone o = stands.objects f index in
+    let after : Option (Option (List ℕ)) = head_after low size e o.head in
+    let l_is : p.object ≡ l = place_object f low (low + size) (low + j) nothing_there taken in
+    let touches : touch f low (low + size) l.head m ≡ touch_of context after =
+    ap (λ x. touch f low (low + size) x m) (sym is.head) ∙ says.touches f low size o.head t in
+    ap (λ (x : Plain). map (kept_at j) x.clones) (edited_object old new size taken ino e context edits stands f index t)
+    ∙ kept_edited size l byte (contexts_for f taken) gone o context after j p.byte p.kept is h
+    (sym (place_byte f low (low + size) (low + j) nothing_there taken))
+    (stands.kept f index j h ∙ ap (λ (x : log.Object). filter_map (still_kept x.purged) p.kept) l_is)
+    ∙ sym (there_after f low (low + size) (low + j) p m l (touch_of context after) l.purged l_is touches (says.keeps l.purged))
+    ∙ sym (ap still_there (fold_push (place_after f low (low + size) (low + j)) nothing_there taken m))
+
+-- what the clones of another file keep there
+kept_there : (old new : Shown) (size : ℕ) (taken : List ToStore) (m : ToStore) (ino : Ino) (e : Edit) (context : Context) (change : ℕ → ℕ → ℕ)
+    → Says m ino e context change → EditsFile old new ino e context → StandsFor old size taken
+    → (f : Ino) (index j : ℕ) → j < size → eqb ino.0 f.0 ≡ false
+    → map (kept_at j) (object_at new f.0 index).clones ≡ still_there (place_of size (taken ++ m ∷ []) f index (index * size + j))
+kept_there old new size taken m ino e context change says edits stands f index j h t =
+    let low = index * size in
+    let p : Place = place_of size taken f index (low + j) in
+    ap (λ (x : Plain). map (kept_at j) x.clones) (other_object old new ino e context edits f index t)
+    ∙ stands.kept f index j h ∙ ap (filter_map (still_kept p.object.purged)) (sym (append-nil p.kept))
+    ∙ sym (there_after f low (low + size) (low + j) p m p.object None p.object.purged refl (says.leaves f low (low + size) p.object.head t) (says.keeps p.object.purged))
+    ∙ sym (ap still_there (fold_push (place_after f low (low + size) (low + j)) nothing_there taken m))
 
 -- a store after an edit stands for one more message
 pub edited_stands : (old new : Shown) (size : ℕ) (taken : List ToStore) (m : ToStore) (ino : Ino) (e : Edit) (context : Context) (change : ℕ → ℕ → ℕ)
@@ -195,8 +248,14 @@ edited_stands old new size taken m ino e context change says w edits stands = re
   some = stands.some;
   purged = λ s. ap (λ ids. has_id ids s) edits.purged ∙ stands.purged s ∙ sym (same_purged s taken m (says.purges_none s));
   objects = λ f index. go f index (eqb ino.0 f.0) refl;
+  kept = λ f index j h. keeps f index j h (eqb ino.0 f.0) refl;
 }
   where
+    keeps : (f : Ino) (index j : ℕ) → j < size → (b : Bool) → eqb ino.0 f.0 ≡ b
+        → map (kept_at j) (object_at new f.0 index).clones ≡ still_there (place_of size (taken ++ m ∷ []) f index (index * size + j))
+    keeps f index j h true t = kept_here old new size taken m ino e context change says edits stands f index j h t
+    keeps f index j h false t = kept_there old new size taken m ino e context change says edits stands f index j h t
+
     go : (f : Ino) (index : ℕ) → (b : Bool) → eqb ino.0 f.0 ≡ b
         → IsObject size (object_of size (taken ++ m ∷ []) f index) (λ counts j. byte_of (taken ++ m ∷ []) f counts (index * size + j))
         (contexts_for f (taken ++ m ∷ [])) (λ s. was_purged s (taken ++ m ∷ [])) (object_at new f.0 index)
@@ -217,8 +276,19 @@ purged_stands old new size taken p purges_it stands = record {
   some = stands.some;
   purged = λ s. purges_it.gone s ∙ ap (λ b. b || has_id old.purged s) (eqb_swap s.0 p.0) ∙ ap (λ b. eqb p.0 s.0 || b) (stands.purged s) ∙ sym (grown s);
   objects = objects;
+  kept = kept;
 }
   where
+    kept : (f : Ino) (index j : ℕ) → j < size
+        → map (kept_at j) (object_at new f.0 index).clones ≡ still_there (place_of size (taken ++ message.Purge p ∷ []) f index (index * size + j))
+    kept f index j h =
+        let low = index * size in
+        let q : Place = place_of size taken f index (low + j) in
+        ap (λ (x : Plain). map (kept_at j) x.clones) (purges_it.objects f.0 index)
+        ∙ kept_after_purge (object_at old f.0 index).clones p q.object.purged j q.byte q.kept (stands.kept f index j h)
+        ∙ sym (there_after f low (low + size) (low + j) q (message.Purge p) q.object None (p ∷ q.object.purged) refl refl refl)
+        ∙ sym (ap still_there (fold_push (place_after f low (low + size) (low + j)) nothing_there taken (message.Purge p)))
+
     grown : (s : SnapId) → was_purged s (taken ++ message.Purge p ∷ []) ≡ (eqb p.0 s.0 || was_purged s taken)
     grown s = purged_more s taken (message.Purge p) ∙ or_swap (was_purged s taken) (eqb p.0 s.0)
 
@@ -261,4 +331,5 @@ new_stands size z = record {
     all_before = λ s a j. refl;
     reads = λ s g k j h. elim (nat_lt 0 s.0) as (λ b. get_or (or_empty (if b then None else None)) j 0 ≡ 0) [ true ↦ get_or_past [] j 0 (omega arith) | false ↦ get_or_past [] j 0 (omega arith) ];
   };
+  kept = λ f index j h. refl;
 }

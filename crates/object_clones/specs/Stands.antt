@@ -10,6 +10,7 @@ use Rattle.object_log.specs.Bytes.{byte_of, any_context, is_before, was_purged}
 use Rattle.object_log.specs.Objects.{object_of, kept_clone}
 use Rattle.object_log.specs.Objects as log
 use Rattle.object_log.specs.Reads.{contexts_for, later_ones_list, earlier_ones_first}
+use Rattle.object_log.specs.Serves.{CloneByte, place_of, still_there}
 use Rattle.object_clones.specs.Bytes.{or_empty}
 use Rattle.object_clones.specs.Objects.{Kept, Plain, bytes_at_snap}
 use Rattle.object_clones.specs.Purged.{has_id}
@@ -29,6 +30,10 @@ Rising low (c ∷ clones) seq = (low ≤ c.id.0) × Between low c.id.0 c.ids × 
 abbrev pub pair : Kept → SnapId × List SnapId
 pair c = (c.id, c.ids)
 
+-- a clone's id and ids, and its byte at a place
+abbrev pub kept_at : ℕ → Kept → CloneByte
+kept_at j c = record { clone = pair c; byte = slice_index c.bytes j }
+
 -- An object is the one that the messages make, of which these are known: what the log says of it, its file's bytes
 -- there after those messages whose context passes a test, the contexts of those that change its file, and what they
 -- purged.
@@ -44,11 +49,13 @@ pub record IsObject (size : ℕ) (l : log.Object) (byte : (Context → Bool) →
   pub reads : (s : SnapId) → gone s ≡ false → (later_ones_list s contexts && earlier_ones_first s contexts) ≡ true
       → (j : ℕ) → j < size → slice_index (or_empty (bytes_at_snap s o)) j ≡ byte (is_before s) j
 
--- The store stands for the messages: objects have this size, what was purged is known, and each object shown is the one
--- that the messages make.
+-- The store stands for the messages: objects have this size, what was purged is known, each object shown is the one that
+-- the messages make, and so is each byte that its clones keep.
 pub record StandsFor (shown : Shown) (size : ℕ) (taken : List ToStore) : Type 0 where
   pub of_size : shown.size ≡ size
   pub some : 0 < size
   pub purged : (s : SnapId) → has_id shown.purged s ≡ was_purged s taken
   pub objects : (f : Ino) (index : ℕ) → IsObject size (object_of size taken f index) (λ counts j. byte_of taken f counts (index * size + j))
       (contexts_for f taken) (λ s. was_purged s taken) (object_at shown f.0 index)
+  pub kept : (f : Ino) (index j : ℕ) → j < size
+      → map (kept_at j) (object_at shown f.0 index).clones ≡ still_there (place_of size taken f index (index * size + j))

@@ -5,6 +5,7 @@ ghost use Rattle.plain_types.specs.declared.message.ToStore.TheVariants as messa
 ghost use Rattle.object_log.specs.Bytes.{bytes_head, bytes_at, was_purged};
 ghost use Rattle.object_log.specs.Objects.{clones_of};
 ghost use Rattle.object_log.specs.Reads.{know_snapshot};
+ghost use Rattle.object_log.specs.Serves.{bytes_served};
 
 use crate::error::StoreError;
 use crate::files::Files;
@@ -128,10 +129,13 @@ impl ObjectStore {
         self.read(ino, size, None)
     }
 
-    /// The first bytes of a file at a snapshot. They are those of the messages made before it where each later message
-    /// for the file lists it. A purged snapshot is Gone, whatever the memory.
+    /// The first bytes of a file at a snapshot: of each object the head where the snapshot is above the object's sequence
+    /// id, else what the clone for it kept, else zeros. They are those of the messages made before the snapshot where each
+    /// later message for the file lists it. A purged snapshot is Gone, whatever the memory.
     pub fn read_at(&self, ino: Ino, size: u32, s: SnapId) -> Result<Bytes, StoreError>
         requires { size ≤ 65536 }
+        ensures served { IfOk result (λ bytes. (object : ℕ) (taken : List ToStore) → StandsFor self.now object taken
+            → bytes ≡ bytes_served object taken ino size s) }
         ensures bytes { IfOk result (λ bytes. (object : ℕ) (taken : List ToStore) → StandsFor self.now object taken
             → know_snapshot s ino taken ≡ true → bytes ≡ bytes_at taken ino size s) }
         ensures gone { (object : ℕ) (taken : List ToStore) → StandsFor self.now object taken

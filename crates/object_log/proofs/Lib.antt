@@ -1,2 +1,5 @@
 pub mod Many
 pub mod Laid
+mod Listing
+mod Changes
+mod Agrees

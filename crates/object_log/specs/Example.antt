@@ -58,6 +58,18 @@ cut_to_nothing =
     ∷ WriteAt file 0 (codes "cd") (under 2 (2 ∷ []))
     ∷ []
 
+-- a write, a snapshot and a write, and then a write by who doesn't know of the snapshot
+abbrev pub written_late : List ToStore
+written_late =
+    WriteAt file 0 (codes "aa") (under 1 [])
+    ∷ WriteAt file 0 (codes "bb") (under 2 (2 ∷ []))
+    ∷ WriteAt file 0 (codes "c") (under 1 [])
+    ∷ []
+
+-- a write, and a write whose context is above a snapshot that it doesn't list
+abbrev pub snapshot_not_listed : List ToStore
+snapshot_not_listed = WriteAt file 0 (codes "aa") (under 1 []) ∷ WriteAt file 0 (codes "bb") (under 2 []) ∷ []
+
 -- the purge of a snapshot
 abbrev pub purge_of : ℕ → List ToStore
 purge_of id = Purge (snap id) ∷ []

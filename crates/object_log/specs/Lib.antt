@@ -1,4 +1,5 @@
 pub mod Bytes
 pub mod Objects
 pub mod Reads
+pub mod Serves
 pub mod Example

@@ -3,7 +3,8 @@ ghost use Rattle.std.specs.Prelude.{◌≡◌, ◌++◌, ◌∷◌, [], Some, No
 ghost use Rattle.object_log.specs.Bytes.{bytes_head, bytes_at, was_purged};
 ghost use Rattle.object_log.specs.Objects.{clones_of};
 ghost use Rattle.object_log.specs.Reads.{know_snapshot};
-ghost use Rattle.object_log.specs.Example.{file, snap, clone, clones, two_objects, two_snapshots, cut_and_written_past, cut_to_nothing, purge_of};
+ghost use Rattle.object_log.specs.Serves.{bytes_served};
+ghost use Rattle.object_log.specs.Example.{file, snap, clone, clones, two_objects, two_snapshots, cut_and_written_past, cut_to_nothing, written_late, snapshot_not_listed, purge_of};
 
 /// A write to one of two objects after a snapshot clones that one alone. The file at the snapshot is as it was.
 pub fn a_second_object_is_cloned_alone()
@@ -13,6 +14,9 @@ pub fn a_second_object_is_cloned_alone()
     ensures head { bytes_head two_objects file 18 ≡ codes "abcdefghijklmnopXY" }
     ensures at_the_snapshot { bytes_at two_objects file 18 (snap 2) ≡ codes "abcdefghijklmnopqr" }
     ensures not_the_new_bytes { ¬ (bytes_at two_objects file 18 (snap 2) ≡ codes "abcdefghijklmnopXY") }
+    ensures served { bytes_served 16 two_objects file 18 (snap 2) ≡ codes "abcdefghijklmnopqr" }
+    ensures head_served { bytes_served 16 two_objects file 18 (snap 3) ≡ codes "abcdefghijklmnopXY" }
+    ensures nothing_served { bytes_served 16 two_objects file 2 (snap 1) ≡ 0 ∷ 0 ∷ [] }
     ensures known { know_snapshot (snap 2) file two_objects ≡ true }
     ensures not_known { know_snapshot (snap 1) file two_objects ≡ false }
 {}
@@ -32,6 +36,8 @@ pub fn a_clone_outlives_its_greatest_id()
     ensures lesser { clones_of 16 (two_snapshots ++ purge_of 3) file 0
         ≡ clones (clone 3 (2 ∷ [])) (Some 2) }
     ensures not_gone { ¬ (clones_of 16 (two_snapshots ++ purge_of 3) file 0 ≡ clones [] (Some 2)) }
+    ensures served { bytes_served 16 (two_snapshots ++ purge_of 3) file 2 (snap 2) ≡ codes "aa" }
+    ensures served_both { bytes_served 16 two_snapshots file 2 (snap 3) ≡ codes "aa" }
     ensures neither { clones_of 16 (two_snapshots ++ purge_of 3 ++ purge_of 2) file 0
         ≡ clones [] (Some 2) }
     ensures not_for_the_purged { ¬ (clones_of 16 (two_snapshots ++ purge_of 3) file 0
@@ -51,4 +57,20 @@ pub fn an_object_without_a_head_is_not_cloned()
     ensures none { clones_of 16 cut_to_nothing file 0 ≡ clones [] (Some 2) }
     ensures not_cloned { ¬ (clones_of 16 cut_to_nothing file 0 ≡ clones (clone 2 (2 ∷ [])) (Some 2)) }
     ensures zeros { bytes_at cut_to_nothing file 2 (snap 2) ≡ 0 ∷ 0 ∷ [] }
+    ensures served { bytes_served 16 cut_to_nothing file 2 (snap 2) ≡ 0 ∷ 0 ∷ [] }
+{}
+
+/// A clone keeps the head as it was, and where messages come late that isn't the file at the snapshot.
+pub fn a_late_message_is_not_served()
+    ensures served { bytes_served 16 written_late file 2 (snap 2) ≡ codes "aa" }
+    ensures at_the_snapshot { bytes_at written_late file 2 (snap 2) ≡ codes "ca" }
+    ensures not_known { know_snapshot (snap 2) file written_late ≡ false }
+    ensures not_the_late_byte { ¬ (bytes_served 16 written_late file 2 (snap 2) ≡ codes "ca") }
+{}
+
+/// A snapshot that no clone lists has no bytes, though the file had some then.
+pub fn what_is_not_listed_is_not_served()
+    ensures served { bytes_served 16 snapshot_not_listed file 2 (snap 2) ≡ 0 ∷ 0 ∷ [] }
+    ensures at_the_snapshot { bytes_at snapshot_not_listed file 2 (snap 2) ≡ codes "aa" }
+    ensures not_known { know_snapshot (snap 2) file snapshot_not_listed ≡ false }
 {}

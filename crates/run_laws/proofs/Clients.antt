@@ -27,7 +27,7 @@ use Rattle.step_table.specs.Messages.{from_store_fits, context_by}
 use Rattle.step_table.specs.Row.{Row}
 use Rattle.step_table.specs.ClientState.{Client, Under, Idle, Open, AtStore, Edit, edit_of, connects, open_request, sent_again, stays}
 use Rattle.step_table.specs.ClientLines.{edit_file, edit_line, read_line, opened, begin_asked, begin_other, begin_with, begin, may_begin, op_of, reading, with_let_go, send_item, send_due, sends_due, unsent_in, file_due, on_flush}
-use Rattle.step_table.specs.ClientTakes.{renewed, updated, goes_on, granted, asks_for, take_grant, wants_bytes, with_found, found, take_answer, take_reply, is_key, key_of, take_read, take_stored, on_stored}
+use Rattle.step_table.specs.ClientTakes.{renewed, updated, goes_on, granted, asks_for, take_grant, wants_bytes, with_found, found, take_answer, takes_answer, take_reply, is_key, key_of, take_read, take_stored, on_stored}
 use Rattle.step_table.specs.World.{to_server as for_server}
 use Rattle.run_laws.specs.Links.{offer}
 use Rattle.run_laws.specs.Requests.{OpenAt, AllAsked, asks}
@@ -216,7 +216,7 @@ answer_begins c number text asked let_go stamp said = record { conn = refl; says
 pub reply_begins : (c : Client) (tid : ℕ) (stamp : Stamp) (said : Answer) (under : Under) → Opened c → Begins c (take_reply c tid stamp said under)
 reply_begins c tid stamp said Idle open_now = stays_begins c open_now
 reply_begins c tid stamp said (AtStore number entry ino head) open_now = stays_begins c open_now
-reply_begins c tid stamp said (Open number open_tid text asked let_go) open_now = begins_if c (open_tid == tid) _ (stays c) (answer_begins c number text asked let_go stamp said) (stays_begins c open_now)
+reply_begins c tid stamp said (Open number open_tid text asked let_go) open_now = begins_if c (open_tid == tid && takes_answer c said) _ (stays c) (answer_begins c number text asked let_go stamp said) (stays_begins c open_now)
 
 -- what an update leaves
 pub updated_same : {X : Type 0} (f : Client → X) → ((c : Client) (ino : Ino) (new : Context) → f (renewed c ino new) ≡ f c) → (update : List FileTrace) (c : Client) → f (updated c update) ≡ f c

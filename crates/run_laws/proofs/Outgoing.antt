@@ -32,7 +32,7 @@ use Rattle.step_table.specs.Messages.{to_client_fits, to_store_fits, from_store_
 use Rattle.step_table.specs.Row.{Row}
 use Rattle.step_table.specs.ClientState.{Client, Under, Idle, Open, AtStore, Edit, edit_of, stays}
 use Rattle.step_table.specs.ClientLines.{edit_file, edit_line, read_line, opened, begin_asked, begin_other, begin_with, begin, may_begin, op_of, on_op, reading, send_item, send_due, sends_due, unsent_in, file_due, on_flush}
-use Rattle.step_table.specs.ClientTakes.{updated, goes_on, granted, asks_for, take_grant, wants_bytes, with_found, found, take_answer, take_reply, take_own, having_heard, may_take, on_told, is_key, key_of, take_read, take_stored, on_stored}
+use Rattle.step_table.specs.ClientTakes.{updated, goes_on, granted, asks_for, take_grant, wants_bytes, with_found, found, take_answer, takes_answer, take_reply, take_own, having_heard, may_take, on_told, is_key, key_of, take_read, take_stored, on_stored}
 use Rattle.step_table.specs.StoreRows.{answers, reports, send_answers, send_reports, takes, on_asked, on_ordered}
 use Rattle.run_laws.proofs.Clients.{updated_same}
 use Rattle.run_laws.proofs.Sending.{AllSent}
@@ -142,7 +142,7 @@ answer_goes c number text asked let_go stamp said = record { store = refl; all =
 reply_goes : (c : Client) (tid : ℕ) (stamp : Stamp) (said : Answer) (under : Under) → Goes c (take_reply c tid stamp said under)
 reply_goes c tid stamp said Idle = stays_goes c
 reply_goes c tid stamp said (AtStore number entry ino head) = stays_goes c
-reply_goes c tid stamp said (Open number open_tid text asked let_go) = goes_if c (open_tid == tid) _ (stays c) (answer_goes c number text asked let_go stamp said) (stays_goes c)
+reply_goes c tid stamp said (Open number open_tid text asked let_go) = goes_if c (open_tid == tid && takes_answer c said) _ (stays c) (answer_goes c number text asked let_go stamp said) (stays_goes c)
 
 updated_goes : (c : Client) (update : List FileTrace) → (updated c update).store ≡ c.store
 updated_goes c update = updated_same (λ (v : Client). v.store) (λ v ino new. refl) update c

@@ -134,9 +134,14 @@ take_answer c number text asked let_go stamp (answer.FoundObject ino index) =
 take_answer c number text asked let_go stamp said =
     replies (record c { under = Idle; handles = handles_after c said asked }) number (is_success asked said) stamp.entry said
 
+-- an answer can be taken where it isn't for a reader of a file that the client holds for Write
+abbrev pub takes_answer : Client → Answer → Bool
+takes_answer c (answer.FoundLive ino perm size write_held) = write_held || not (is_writer ino c.files)
+takes_answer c said = true
+
 abbrev pub take_reply : Client → ℕ → Stamp → Answer → Under → Row Client
 take_reply c tid stamp said (Open number open_tid text asked let_go) =
-    if open_tid == tid then take_answer c number text asked let_go stamp said else stays c
+    if open_tid == tid && takes_answer c said then take_answer c number text asked let_go stamp said else stays c
 take_reply c tid stamp said under = stays c
 
 -- the connection number of a message of the server; a restart is told without one

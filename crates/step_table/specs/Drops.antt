@@ -1,8 +1,9 @@
 -- Nodes at rest, and messages that they drop.
-use Rattle.std.specs.Prelude.{ℕ, true, false, List, [], ◌∷◌, codes, None}
+use Rattle.std.specs.Prelude.{ℕ, true, false, List, [], ◌∷◌, codes, None, Some}
 use Rattle.snap_ids.specs.declared.id.Ino.{Ino}
 use Rattle.snap_ids.specs.declared.id.SnapId.{SnapId}
 use Rattle.snap_ids.specs.declared.id.TheConstants.{NOSNAP}
+use Rattle.snap_ids.specs.declared.values.CloneList.{CloneList}
 use Rattle.snap_ids.specs.declared.values.Mode.TheVariants.{Write}
 use Rattle.snap_ids.specs.Context.{Context}
 use Rattle.plain_types.specs.declared.message.Claim.{Claim}
@@ -13,8 +14,10 @@ use Rattle.plain_types.specs.declared.message.ToServer.TheVariants.{Connect, Ask
 use Rattle.plain_types.specs.declared.message.ToStore.{ToStore}
 use Rattle.plain_types.specs.declared.message.ToStore.TheVariants.{WriteAt}
 use Rattle.plain_types.specs.declared.request.Request.TheVariants.{Cap}
+use Rattle.plain_types.specs.declared.request.Request.TheVariants as request
+use Rattle.plain_types.specs.declared.script.Line.TheVariants as line
 use Rattle.step_table.specs.ServerState.{Server, new_server}
-use Rattle.step_table.specs.ClientState.{Client, new_client}
+use Rattle.step_table.specs.ClientState.{Client, Open, AtStore, new_client}
 use Rattle.plain_types.specs.declared.entry.Entry.{Entry}
 use Rattle.plain_types.specs.declared.entry.What.{What}
 use Rattle.plain_types.specs.declared.entry.What.TheVariants.{Mkdir, Create}
@@ -46,6 +49,13 @@ writer = record (new_client 1 2 []) {
   contexts = (file, record { seq = record { 0 = 1 }; ids = [] }) ∷ [];
 }
 
+-- that client while it asks for the file's bytes by its path, and while the store is asked for its clones
+abbrev pub asking : Client
+asking = record writer { under = Open 1 9 (line.Cat (codes "a" ∷ codes "f" ∷ [])) (request.Cat (codes "a" ∷ codes "f" ∷ [])) [] }
+
+abbrev pub waiting : Client
+waiting = record writer { under = AtStore 1 3 file false }
+
 -- an inode that was never made
 abbrev pub nobody : Ino
 nobody = record { 0 = 1099511627778 }
@@ -59,6 +69,10 @@ flush ino follows upto size = record { number = 1; ino = ino; follows = follows;
 
 abbrev pub release : ℕ → FlushMsg
 release size = record { number = 1; ino = file; follows = id 1; upto = NOSNAP; size = size; release = true }
+
+-- one clone for a snapshot, and a head's length
+abbrev pub clones : SnapId → ℕ → CloneList
+clones s length = record { clones = (s, s ∷ []) ∷ []; head = Some length }
 
 abbrev pub claim : Ino → SnapId → List Claim
 claim ino settled = record { ino = ino; mode = Write; settled = settled } ∷ []

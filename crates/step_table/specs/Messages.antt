@@ -1,9 +1,10 @@
 -- Which messages a node can take at all, and how the table writes the contexts in them.
-use Rattle.std.specs.Prelude.{ℕ, ◌+◌, Bool, true, not, ◌&&◌, ◌||◌, nat_lt, [], ◌∷◌, length, map}
+use Rattle.std.specs.Prelude.{ℕ, ◌+◌, Bool, true, not, ◌&&◌, ◌||◌, nat_lt, List, [], ◌∷◌, length, map, Option, None, Some}
 use Rattle.std.specs.List.{list_all}
 use Rattle.snap_ids.specs.declared.id.Ino.{Ino}
 use Rattle.snap_ids.specs.declared.id.SnapId.{SnapId}
 use Rattle.snap_ids.specs.declared.id.TheConstants.{NOSNAP, GLOBAL}
+use Rattle.snap_ids.specs.declared.values.CloneList.{CloneList}
 use Rattle.snap_ids.specs.declared.values.RealmInfo.{RealmInfo}
 use Rattle.snap_ids.specs.Context.{Context}
 use Rattle.snap_ids.specs.Traces.{context_of}
@@ -50,6 +51,17 @@ claim_fits claim = is_id claim.settled
 abbrev pub flush_fits : FlushMsg → Bool
 flush_fits flush = is_id flush.follows && (flush.release || is_id flush.upto) && is_size flush.size
 
+-- a clone's id and the ids that it lists can be, and the head's length
+abbrev pub clone_fits : SnapId × List SnapId → Bool
+clone_fits clone = is_id clone.0 && list_all is_id clone.1
+
+abbrev pub head_fits : Option ℕ → Bool
+head_fits None = true
+head_fits (Some size) = is_size size
+
+abbrev pub clones_fit : CloneList → Bool
+clones_fit list = list_all clone_fits list.clones && head_fits list.head
+
 -- the numbers in an answer can be
 abbrev pub answer_fits : Answer → Bool
 answer_fits (answer.Snap id) = is_id id
@@ -58,6 +70,7 @@ answer_fits (answer.StatFile mode size) = is_size size
 answer_fits (answer.RealmIs ino context) = context_fits context
 answer_fits (answer.FoundLive ino perm size write_held) = is_size size
 answer_fits (answer.FoundSnap ino snap size) = is_id snap && is_size size
+answer_fits (answer.ClonesAre list) = clones_fit list
 answer_fits answer = true
 
 -- the numbers in a message to the server can be
@@ -91,6 +104,7 @@ to_store_fits (to_store.Purge id) = is_id id
 -- the numbers in a message of the store can be
 abbrev pub from_store_fits : FromStore → Bool
 from_store_fits (from_store.Got key bytes) = is_size (length bytes)
+from_store_fits (from_store.CloneListIs key list) = clones_fit list
 from_store_fits message = true
 
 -- the context that a file's trace gives it

@@ -8,19 +8,20 @@ use Rattle.plain_types.specs.declared.message.ToServer.{ToServer}
 use Rattle.plain_types.specs.declared.message.ToServer.TheVariants.{Purged, Deleted}
 use Rattle.plain_types.specs.declared.message.ToStore.{ToStore}
 use Rattle.plain_types.specs.declared.message.ToStore.TheVariants.{WriteAt, Cut, Delete, ReadHead, ReadSnap, ListClones, Purge}
-use Rattle.object_log.specs.Bytes.{bytes_head, bytes_at, was_purged}
+use Rattle.object_log.specs.Bytes.{bytes_head, was_purged}
 use Rattle.object_log.specs.Objects.{clones_of}
+use Rattle.object_log.specs.Serves.{bytes_served}
 use Rattle.step_table.specs.Messages.{to_store_fits}
 use Rattle.step_table.specs.Row.{Row, sends}
 
--- what a client is answered, after the messages that the store took, with objects of this size; what only the server
--- sends gets no answer
+-- what a client is answered, after the messages that the store took, with objects of this size: at a snapshot each object
+-- gives its head or what a clone kept; what only the server sends gets no answer
 abbrev pub answers : ℕ → List ToStore → ToStore → List FromStore
 answers object taken (WriteAt ino offset bytes context) = Stored ino ∷ []
 answers object taken (Cut ino size context) = Stored ino ∷ []
 answers object taken (ReadHead key ino size) = Got key (bytes_head taken ino size) ∷ []
 answers object taken (ReadSnap key ino size s) =
-    (if was_purged s taken then NotThere key else Got key (bytes_at taken ino size s)) ∷ []
+    (if was_purged s taken then NotThere key else Got key (bytes_served object taken ino size s)) ∷ []
 answers object taken (ListClones key ino index) = CloneListIs key (clones_of object taken ino index) ∷ []
 answers object taken (Delete ino context) = []
 answers object taken (Purge id) = []

@@ -1,5 +1,5 @@
 // Which messages each node drops: nothing changes, and nothing is sent.
-ghost use Rattle.std.specs.Prelude.{◌≡◌, ◌∷◌, [], Some, None, codes};
+ghost use Rattle.std.specs.Prelude.{◌≡◌, ◌∷◌, [], Some, None, true, false, codes};
 ghost use Rattle.snap_ids.specs.declared.id.TheConstants.{NOSNAP};
 ghost use Rattle.snap_ids.specs.declared.values.Mode.TheVariants.{Read, Write};
 ghost use Rattle.plain_types.specs.declared.answer.Answer.TheVariants as answer;
@@ -13,7 +13,7 @@ ghost use Rattle.step_table.specs.Messages.{trace_with};
 ghost use Rattle.step_table.specs.ServerRows.{on_take, on_report};
 ghost use Rattle.step_table.specs.ClientTakes.{take_own, on_stored, having_heard, on_told};
 ghost use Rattle.step_table.specs.StoreRows.{on_asked, on_ordered};
-ghost use Rattle.step_table.specs.Drops.{server, writer, dir, file, nobody, id, flush, release, claim, connect, cap, stamp, knows, write};
+ghost use Rattle.step_table.specs.Drops.{server, writer, asking, waiting, dir, file, nobody, id, flush, release, clones, claim, connect, cap, stamp, knows, write};
 
 /// A message of another connection is dropped, and a connection whose number isn't new.
 pub fn the_server_drops_by_connection()
@@ -66,6 +66,25 @@ pub fn a_client_drops_messages()
     ensures not_a_context { (on_told writer (to_client.Notice 1 (stamp (id 1)) (trace_with file (knows NOSNAP) ∷ []))).state.contexts ≡ writer.contexts }
     ensures no_read { on_stored writer (from_store.Got 9 (codes "a")) ≡ sends writer [] }
     ensures no_file { on_stored writer (from_store.Stored nobody) ≡ sends writer [] }
+{}
+
+/// A client drops a list of clones with an id that no snapshot has or a head past the end of a file, from the store and from
+/// the server.
+pub fn a_client_drops_clones()
+    ensures not_an_id { on_stored waiting (from_store.CloneListIs 1 (clones NOSNAP 2)) ≡ sends waiting [] }
+    ensures too_long { on_stored waiting (from_store.CloneListIs 1 (clones (id 2) 65537)) ≡ sends waiting [] }
+    ensures longest { ¬ ((on_stored waiting (from_store.CloneListIs 1 (clones (id 2) 65536))).replies ≡ []) }
+    ensures told_no_id { (on_told asking (to_client.Reply 1 9 (stamp (id 1)) (answer.ClonesAre (clones NOSNAP 2)))).replies ≡ [] }
+    ensures told_too_long { (on_told asking (to_client.Reply 1 9 (stamp (id 1)) (answer.ClonesAre (clones (id 2) 65537)))).replies ≡ [] }
+{}
+
+/// A client that holds a file for Write drops the answer that would have it read the file: it keeps the file, and its
+/// request stays open. The answer that knows of it is taken.
+pub fn a_writer_becomes_no_reader()
+    ensures keeps_it { (on_told asking (to_client.Reply 1 9 (stamp (id 1)) (answer.FoundLive file 420 2 false))).state.files ≡ writer.files }
+    ensures still_open { (on_told asking (to_client.Reply 1 9 (stamp (id 1)) (answer.FoundLive file 420 2 false))).state.under ≡ asking.under }
+    ensures silent { (on_told asking (to_client.Reply 1 9 (stamp (id 1)) (answer.FoundLive file 420 2 false))).sent ≡ [] }
+    ensures taken { ¬ ((on_told asking (to_client.Reply 1 9 (stamp (id 1)) (answer.FoundLive file 420 2 true))).sent ≡ []) }
 {}
 
 /// The store drops what reaches past the end of a file, an id that no snapshot has, and what its sender doesn't send.

@@ -11,8 +11,9 @@ mod returns;
 mod runs;
 
 pub use drops::{
-    a_client_drops_messages, the_server_drops_by_connection, the_server_drops_by_file,
-    the_server_drops_by_number, the_server_drops_reports, the_store_drops_messages,
+    a_client_drops_clones, a_client_drops_messages, a_writer_becomes_no_reader,
+    the_server_drops_by_connection, the_server_drops_by_file, the_server_drops_by_number,
+    the_server_drops_reports, the_store_drops_messages,
 };
 pub use examples::{
     a_barrier_waits_for_all, a_clone_goes_with_its_last_snapshot, a_cut_leaves_the_snapshot,
