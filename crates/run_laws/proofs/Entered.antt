@@ -53,6 +53,7 @@ use Rattle.step_table.specs.Background.{roll_back, finish, finish_with, least, u
 use Rattle.step_table.specs.ServerRows.{reported, restarts, roll_back_from}
 use Rattle.step_table.specs.World.{start, journal}
 use Rattle.run_laws.specs.Moments.{steps_of, world_after}
+use Rattle.run_laws.specs.Prepared.{is_live}
 use Rattle.run_laws.proofs.Acts.{Fit, fit_append, notices_keep}
 use Rattle.run_laws.proofs.Fitting.{OkIs, then_ok, directory_ok, file_ok, unless_ok, if_ok, live_ok}
 use Rattle.run_laws.proofs.Gives.{KeptByServer}
@@ -520,6 +521,21 @@ entered_kept = record {
 
 entered : (script : Script) (history : List Event) → Entered (world_after script history).server
 entered script history = run_serves (tested_gives enters_fit entered_kept) (start script) (steps_of history) (no_client_start script) tt
+
+follow_at : (done before later : List Entry) (e : Entry) → AllFollow done (before ++ e ∷ later) → MayFollow (done ++ before) e
+follow_at done [] later e all = subst (λ (l : List Entry). MayFollow l e) (sym (append-nil done)) all.0
+follow_at done (x ∷ before) later e all = subst (λ (l : List Entry). MayFollow l e) (append_assoc done (x ∷ []) before) (follow_at (done ++ x ∷ []) before later e all.1)
+
+-- a snapshot that is removed is live
+pub live_law : (script : Script) (history : List Event) (before later : List Entry) (e : Entry) (id : SnapId) → (world_after script history).server.entries ≡ before ++ e ∷ later → e.what ≡ what.Rmsnap id → is_live id (state_after before).snaps ≡ true
+live_law script history before later e id entries is = twice (is_live id (state_after before).snaps) (subst (λ (w : What). is_made_by (state_after before) e.client (change_in w) ≡ true) is made)
+  where
+    made : is_made_by (state_after before) e.client (change_in e.what) ≡ true
+    made = (follow_at [] before later e (subst (AllFollow []) entries (entered script history))).0
+
+    twice : (b : Bool) → not (not b) ≡ true → b ≡ true
+    twice true is = refl
+    twice false is = is
 
 -- more entries give no fewer ids
 abbrev some_prepare : List Entry → List Entry

@@ -34,3 +34,4 @@ mod Strangers
 mod Rises
 mod When
 mod Entered
+mod Whose

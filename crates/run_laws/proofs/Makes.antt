@@ -34,7 +34,6 @@ use Rattle.step_table.specs.ClientLines.{on_op, on_flush}
 use Rattle.step_table.specs.World.{World, client, start, after}
 use Rattle.run_laws.specs.Moments.{steps_of, world_after}
 use Rattle.run_laws.specs.Links.{View, EachClient, mine}
-use Rattle.run_laws.specs.Requests.{is_of}
 use Rattle.run_laws.specs.Prepared.{is_mkdir, is_rmdir, prepared_by, prepared}
 use Rattle.run_laws.specs.Tables.{IsOut}
 use Rattle.run_laws.proofs.Acts.{Fit, fit_append, notices_keep}
@@ -43,7 +42,7 @@ use Rattle.run_laws.proofs.Linked.{in_hand, if_row, at_start}
 use Rattle.run_laws.proofs.Effects.{EffectFits}
 use Rattle.run_laws.proofs.Fitting.{OkIs}
 use Rattle.run_laws.proofs.Comes.{MadeBy, comes_to}
-use Rattle.run_laws.proofs.Kept.{made_law}
+use Rattle.run_laws.proofs.Kept.{made_law, removed_law}
 use Rattle.run_laws.proofs.Plain.{IsPlain, AllPlain, plain_cap, plain_look, plain_barrier, plain_flush, plain_drop, plain_back, plain_reported, plain_restarts, plain_turn}
 use Rattle.run_laws.proofs.Views.{Client's, run_keeps}
 use Rattle.run_laws.proofs.ViewActs.{KeptViews, RulesFit, rows_of_acts, accepted, both, given}
@@ -51,18 +50,24 @@ use Rattle.run_laws.proofs.Once.{FitsFor}
 use Rattle.run_laws.proofs.Strangers.{NoneOf, none_at, strangers}
 use Rattle.run_laws.proofs.Operations.{Suits, SuitedAt, All, all_kept, all_rules, first_all}
 
--- no removal is prepared
+-- no removal is prepared, and no creation
 abbrev is_removal : Option What → Bool
 is_removal (Some (PrepareDestroy id)) = true
 is_removal o = false
 
--- where a change, or an entry, makes a snapshot, no removal is prepared
+abbrev is_making : Option What → Bool
+is_making (Some (PrepareCreate id)) = true
+is_making o = false
+
+-- where a change, or an entry, makes a snapshot, no removal is prepared; where it removes one, no creation
 abbrev IsDue : Change → Option What → Type 0
 IsDue (change.Mksnap id dir name) o = is_removal o ≡ false
+IsDue (change.Rmsnap id) o = is_making o ≡ false
 IsDue made o = Unit {0}
 
 abbrev EntryDue : What → Option What → Type 0
 EntryDue (Mksnap id dir name) o = is_removal o ≡ false
+EntryDue (Rmsnap id) o = is_making o ≡ false
 EntryDue said o = Unit {0}
 
 abbrev HandDue : ℕ → Change → Server → Type 0
@@ -144,20 +149,30 @@ not_removal asked (Some (PrepareDestroy id)) is suits = absurd (apart asked is s
     apart asked is suits = true≢false (sym is)
 not_removal asked (Some said) is suits = refl
 
+-- and an `rmdir` no creation
+not_making : (asked : Request) (o : Option What) → is_rmdir asked ≡ true → Suits asked o → is_making o ≡ false
+not_making asked None is suits = refl
+not_making asked (Some (PrepareCreate id)) is suits = absurd (apart asked is suits)
+  where
+    apart : (asked : Request) → is_rmdir asked ≡ true → is_mkdir asked ≡ true → ⊥
+    apart (request.Rmdir path) is suits = true≢false (sym suits)
+    apart asked is suits = true≢false (sym is)
+not_making asked (Some said) is suits = refl
+
 finish_fit : (n : ℕ) (s : Server) (a : Asked) (id : SnapId) (o : Option (Result Change Refusal)) → s.hand ≡ Some a → (of_client n a ≡ true → Suits a.request (prepared s.entries)) → IfSome o (λ (r : Result Change Refusal). OkIs r (MadeBy a.request)) → Fit (MakesFit n) s (finish id o)
 finish_fit n s a id None hand suits by = tt
 finish_fit n s a id (Some (Err refusal)) hand suits by = (tt, (tt, tt))
 finish_fit n s a id (Some (Ok made)) hand suits by = by_made made by
   where
+    same_hand : (b : Asked) → s.hand ≡ Some b → a ≡ b
+    same_hand b is = cc
+
     by_made : (made : Change) → MadeBy a.request made → Fit (MakesFit n) s (finish_with id made)
     by_made (change.Mksnap given dir name) by = ((λ b is mine_b. let same : a ≡ b = same_hand b is in not_removal a.request (prepared s.entries) by (suits (subst (λ (x : Asked). of_client n x ≡ true) (sym same) mine_b))), (tt, tt))
-      where
-        same_hand : (b : Asked) → s.hand ≡ Some b → a ≡ b
-        same_hand b is = cc
     by_made (change.Rmsnap now) by = by_test (now.0 == id.0)
       where
         by_test : (d : Bool) → Fit (MakesFit n) s (cond d (MakeEffect (change.Rmsnap now) ∷ AnswerIt answer.Done ∷ []) (roll_back id ∷ DeferFirst ∷ []))
-        by_test true = ((λ b is mine_b. tt), (tt, tt))
+        by_test true = ((λ b is mine_b. let same : a ≡ b = same_hand b is in not_making a.request (prepared s.entries) by (suits (subst (λ (x : Asked). of_client n x ≡ true) (sym same) mine_b))), (tt, tt))
         by_test false = (tt, (tt, tt))
     by_made made by = ((λ b is mine_b. tt), (tt, tt))
 
@@ -203,7 +218,7 @@ both_turn : (n : ℕ) (c : Client) (s : Server) (o : Option (List Act)) → IfSo
 both_turn n c s None one two = tt
 both_turn n c s (Some list) one two = fit_both n c s list one two
 
--- each entry of a client that makes a snapshot does so where no removal is prepared; `o` is what is prepared before these
+-- each entry of a client that makes or removes a snapshot does so where the other isn't prepared; `o` is what is prepared before these
 abbrev AllDue : ℕ → Option What → List Entry → Type 0
 AllDue n o [] = Unit {0}
 AllDue n o (e ∷ entries) = ((e.client == n) ≡ true → EntryDue e.what o) × AllDue n (prepared_by e.what o) entries
@@ -239,10 +254,12 @@ buffers n s e new due = notices_keep (Due n) (λ t x inos so. tell_due n t x (Ch
 
 no_change : (said : What) (o : Option What) → change_in said ≡ None → EntryDue said o
 no_change (Mksnap id dir name) o is = cc
+no_change (Rmsnap id) o is = cc
 no_change said o is = tt
 
 written_due : (made : Change) (o : Option What) → IsDue made o → IfSome (written_down made) (λ said. EntryDue said o)
 written_due (change.Mksnap id dir name) o is = is
+written_due (change.Rmsnap id) o is = is
 written_due made o is = tt
 
 one : (n : ℕ) (s : Server) (a : Act) → EffectFits n s a → MakesFit n s a → Due n s → Due n (act s a)
@@ -346,28 +363,50 @@ is_creation id place (Some o) (Some (PrepareCreate now)) out same no_removal = l
 is_creation id place (Some o) (Some (PrepareDestroy now)) out same no_removal = absurd (true≢false no_removal)
 is_creation id place (Some o) (Some said) out same no_removal = absurd same
 
+is_destruction : (id : SnapId) (place : ℕ) (o : Option (SnapId × ℕ)) (p : Option What) → o ≡ Some (id, place) → SameOut o p → is_making p ≡ false → p ≡ Some (PrepareDestroy id)
+is_destruction id place None p out same no_making = cc
+is_destruction id place (Some o) None out same no_making = absurd same
+is_destruction id place (Some o) (Some (PrepareDestroy now)) out same no_making = let it : o ≡ (id, place) = cc in ap (λ (x : SnapId). Some (PrepareDestroy x)) (sym same ∙ ap (λ (x : SnapId × ℕ). x.0) it)
+is_destruction id place (Some o) (Some (PrepareCreate now)) out same no_making = absurd (true≢false no_making)
+is_destruction id place (Some o) (Some said) out same no_making = absurd same
+
 is_its : (n : ℕ) → (n == n) ≡ true
 is_its n = grind (arith, nat_tests)
 
-pub creation_law : (script : Script) (history : List Event) (before later : List Entry) (e : Entry) (id : SnapId) (dir : Ino) (name : List ℕ)
-    → (world_after script history).server.entries ≡ before ++ e ∷ later → e.what ≡ Mksnap id dir name → prepared before ≡ Some (PrepareCreate id)
-creation_law script history before later e id dir name entries is = by_client (client w.clients e.client) refl (all_hold script (steps_of history) e.client)
+-- what an entry with a change of the tree says is due
+due_law : (script : Script) (history : List Event) (before later : List Entry) (e : Entry) → (world_after script history).server.entries ≡ before ++ e ∷ later → is_some (change_in e.what) ≡ true → EntryDue e.what (prepared before)
+due_law script history before later e entries is = by_client (client w.clients e.client) refl (all_hold script (steps_of history) e.client)
   where
     w : World
     w = world_after script history
 
-    out : IsOut before id
-    out = made_law script history before later e id dir name entries is
-
-    made : EntryDue (Mksnap id dir name) (prepared before) → prepared before ≡ Some (PrepareCreate id)
-    made due = is_creation id out.0 (outstanding before) (prepared before) out.1 (same_out 1 None None before tt) due
-
     it : (e.client == e.client) ≡ true
     it = is_its e.client
 
-    its : is_of e.client e ≡ true
-    its = subst (λ (x : What). (is_some (change_in x) && (e.client == e.client)) ≡ true) (sym is) it
+    its : (b : Bool) → b ≡ true → (b && (e.client == e.client)) ≡ true
+    its true is = it
+    its false is = absurd (true≢false (sym is))
 
-    by_client : (o : Option Client) → client w.clients e.client ≡ o → IfSome o (λ c. Full e.client c (mine e.client w.up) (mine e.client w.down) w.server) → prepared before ≡ Some (PrepareCreate id)
-    by_client (Some c) at all = made (subst (λ (x : What). EntryDue x (prepared before)) is (due_at e.client None before later e (subst (AllDue e.client None) entries all.1) it))
-    by_client None at all = absurd (true≢false (sym its ∙ none_at e.client before later e (subst (NoneOf e.client) entries (strangers script (steps_of history) e.client at).1.none)))
+    by_client : (o : Option Client) → client w.clients e.client ≡ o → IfSome o (λ c. Full e.client c (mine e.client w.up) (mine e.client w.down) w.server) → EntryDue e.what (prepared before)
+    by_client (Some c) at all = due_at e.client None before later e (subst (AllDue e.client None) entries all.1) it
+    by_client None at all = absurd (true≢false (sym (its (is_some (change_in e.what)) is) ∙ none_at e.client before later e (subst (NoneOf e.client) entries (strangers script (steps_of history) e.client at).1.none)))
+
+pub creation_law : (script : Script) (history : List Event) (before later : List Entry) (e : Entry) (id : SnapId) (dir : Ino) (name : List ℕ)
+    → (world_after script history).server.entries ≡ before ++ e ∷ later → e.what ≡ Mksnap id dir name → prepared before ≡ Some (PrepareCreate id)
+creation_law script history before later e id dir name entries is = is_creation id out.0 (outstanding before) (prepared before) out.1 (same_out 1 None None before tt) due
+  where
+    out : IsOut before id
+    out = made_law script history before later e id dir name entries is
+
+    due : EntryDue (Mksnap id dir name) (prepared before)
+    due = subst (λ (x : What). EntryDue x (prepared before)) is (due_law script history before later e entries (subst (λ (x : What). is_some (change_in x) ≡ true) (sym is) refl))
+
+pub destruction_law : (script : Script) (history : List Event) (before later : List Entry) (e : Entry) (id : SnapId)
+    → (world_after script history).server.entries ≡ before ++ e ∷ later → e.what ≡ Rmsnap id → prepared before ≡ Some (PrepareDestroy id)
+destruction_law script history before later e id entries is = is_destruction id out.0 (outstanding before) (prepared before) out.1 (same_out 1 None None before tt) due
+  where
+    out : IsOut before id
+    out = removed_law script history before later e id entries is
+
+    due : EntryDue (Rmsnap id) (prepared before)
+    due = subst (λ (x : What). EntryDue x (prepared before)) is (due_law script history before later e entries (subst (λ (x : What). is_some (change_in x) ≡ true) (sym is) refl))

@@ -76,7 +76,7 @@ tell_suited n s x told suited = by_number (number_of s.current x)
 buffers : (n : ℕ) (s : Server) (e : Entry) → SuitedAt n (s.entries ++ e ∷ []) s.operation → Suited n (buffer s e)
 buffers n s e now = notices_keep (Suited n) (λ t x inos so. tell_suited n t x (Changed inos) so) s.entries (up_to s.clients) (record s { entries = s.entries ++ e ∷ [] }) now
 
-written_not : (made : Change) → IfSome (written_down made) (λ said. is_prepare said ≡ false)
+pub written_not : (made : Change) → IfSome (written_down made) (λ said. is_prepare said ≡ false)
 written_not made = by_change made
   where
     by_change : (made : Change) → IfSome (written_down made) (λ said. is_prepare said ≡ false)

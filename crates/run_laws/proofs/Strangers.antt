@@ -39,35 +39,38 @@ use Rattle.step_table.specs.ClientTakes.{on_told, on_stored}
 use Rattle.step_table.specs.World.{World, start, Made, row, after_row, after, with_client, with_message, with_first, some_row, at_client, at_server, client, put, pop, store_node, client_takes, client_takes_stored, server_takes, server_takes_report, store_takes, store_takes_order, tagged, to_server as for_server}
 use Rattle.run_laws.specs.Links.{mine}
 use Rattle.run_laws.specs.Requests.{AllOf, is_of}
+use Rattle.run_laws.specs.Tables.{is_prepare}
 use Rattle.run_laws.proofs.Acts.{Fit, notices_keep, KeptByActs, acts_keep, take_ask, take_connect, take_flush, take_drop, take_purged, take_deleted, row_keeps, turn_keeps, commit_keeps, restart_keeps}
 use Rattle.run_laws.proofs.Asked.{all_append, all_filter, all_first, all_drop}
 use Rattle.run_laws.proofs.Channels.{IsHead, popped, mine_append, mine_other}
 use Rattle.run_laws.proofs.Gives.{AlwaysFit, anew_fit}
 use Rattle.run_laws.proofs.Plain.{IsPlain, AllPlain, plain_cap, plain_look, plain_barrier, plain_flush, plain_drop, plain_back, plain_reported, plain_restarts, plain_turn}
 
--- what is buffered beside the effects of requests is no effect
+-- what is buffered beside the effects of requests is no effect, and prepares nothing; what is prepared is an operation
 abbrev pub OwnFits : Server → Act → Type 0
-OwnFits s (Buffer e) = change_in e.what ≡ None
+OwnFits s (Buffer e) = (change_in e.what ≡ None) × (is_prepare e.what ≡ false)
+OwnFits s (Prepare said) = is_prepare said ≡ true
 OwnFits s a = Unit {0}
 
 plain_own : (s : Server) (a : Act) → IsPlain a → OwnFits s a
-plain_own s (Buffer e) is = is.0
+plain_own s (Buffer e) is = is
+plain_own s (Prepare said) is = absurd is
 plain_own s a is = tt
 
 plain_fit : (s : Server) (list : List Act) → AllPlain list → Fit OwnFits s list
 plain_fit s [] all = tt
 plain_fit s (a ∷ list) all = (plain_own s a all.0, plain_fit (act s a) list all.1)
 
-prepare_fit : (s : Server) (alone : Bool) (said : What) → Fit OwnFits s (prepare alone s said)
-prepare_fit s alone said = by_test (is_busy alone s)
+prepare_fit : (s : Server) (alone : Bool) (said : What) → is_prepare said ≡ true → Fit OwnFits s (prepare alone s said)
+prepare_fit s alone said is = by_test (is_busy alone s)
   where
     by_test : (b : Bool) → Fit OwnFits s (cond b (Defer ∷ []) (Prepare said ∷ []))
     by_test true = (tt, tt)
-    by_test false = (tt, tt)
+    by_test false = (is, tt)
 
 make_fit : (s : Server) (alone : Bool) (made : Change) → Fit OwnFits s (make alone s made)
-make_fit s alone (change.Mksnap id dir name) = prepare_fit s alone (PrepareCreate id)
-make_fit s alone (change.Rmsnap id) = prepare_fit s alone (PrepareDestroy id)
+make_fit s alone (change.Mksnap id dir name) = prepare_fit s alone (PrepareCreate id) refl
+make_fit s alone (change.Rmsnap id) = prepare_fit s alone (PrepareDestroy id) refl
 make_fit s alone made = (tt, (tt, tt))
 
 decided_fit : (s : Server) (alone : Bool) (o : Option (Result Change Refusal)) → Fit OwnFits s (decided alone s o)
@@ -102,12 +105,12 @@ treat_fit s alone a = by_test (all_connected s)
 
 finish_fit : (s : Server) (id : SnapId) (o : Option (Result Change Refusal)) → Fit OwnFits s (finish id o)
 finish_fit s id None = tt
-finish_fit s id (Some (Err refusal)) = (refl, (tt, tt))
+finish_fit s id (Some (Err refusal)) = ((refl, refl), (tt, tt))
 finish_fit s id (Some (Ok made)) = by_made made
   where
     by_test : (now : SnapId) (b : Bool) → Fit OwnFits s (cond b (MakeEffect (change.Rmsnap now) ∷ AnswerIt answer.Done ∷ []) (roll_back id ∷ DeferFirst ∷ []))
     by_test now true = (tt, (tt, tt))
-    by_test now false = (refl, (tt, tt))
+    by_test now false = ((refl, refl), (tt, tt))
 
     by_made : (made : Change) → Fit OwnFits s (finish_with id made)
     by_made (change.Rmsnap now) = by_test now (now.0 == id.0)
@@ -143,7 +146,7 @@ turn_fit s = by_test (all_connected s)
     by_test true = by_outstanding (outstanding s.entries)
     by_test false = tt
 
-own_fit : AlwaysFit OwnFits
+pub own_fit : AlwaysFit OwnFits
 own_fit = record {
   held = λ s x. tt;
   treats = λ s a. treat_fit s false a;
@@ -242,7 +245,7 @@ one n s (Prepare said) fit u = by_hand s.hand u.in_hand
     by_hand None all = u
     by_hand (Some a) all = buffers n (record s { operation = Some a; hand = None }) (entry_for a said) (of_other n (entry_for a said) (not_its n a all))
         (record { none = u.none; in_hand = tt; in_held = u.in_held; in_deferred = u.in_deferred; in_operation = all })
-one n s (Buffer e) fit u = buffers n s e (no_effect n e fit) u
+one n s (Buffer e) fit u = buffers n s e (no_effect n e fit.0) u
 one n s Wait fit u = record { none = u.none; in_hand = tt; in_held = all_append n None s.held (as_list s.hand) u.in_held u.in_hand; in_deferred = u.in_deferred; in_operation = u.in_operation }
 one n s Defer fit u = record { none = u.none; in_hand = tt; in_held = u.in_held; in_deferred = all_append n None s.deferred (as_list s.hand) u.in_deferred u.in_hand; in_operation = u.in_operation }
 one n s DeferFirst fit u = record { none = u.none; in_hand = tt; in_held = u.in_held; in_deferred = all_append n None (as_list s.hand) s.deferred u.in_hand u.in_deferred; in_operation = u.in_operation }

@@ -1,5 +1,7 @@
 -- What the entries prepare on the snapshot table, and what the clients asked for it.
-use Rattle.std.specs.Prelude.{◌≡◌, ℕ, Bool, true, false, List, fold, Option, None, Some}
+use Rattle.std.specs.Prelude.{◌≡◌, ℕ, Bool, true, false, List, fold, ◌&&◌, ◌==◌, Option, None, Some}
+use Rattle.std.specs.List.{list_any}
+use Rattle.snap_ids.specs.declared.id.SnapId.{SnapId}
 use Rattle.plain_types.specs.declared.entry.Entry.{Entry}
 use Rattle.plain_types.specs.declared.entry.What.{What}
 use Rattle.plain_types.specs.declared.entry.What.TheVariants.{PrepareCreate, PrepareDestroy, Mksnap, Rmsnap, Rollback}
@@ -7,6 +9,7 @@ use Rattle.plain_types.specs.declared.message.ToClient.{ToClient}
 use Rattle.plain_types.specs.declared.request.Request.{Request}
 use Rattle.plain_types.specs.declared.request.Request.TheVariants.{Mkdir, Rmdir}
 use Rattle.plain_tree.specs.History.{stamp_of}
+use Rattle.plain_tree.specs.State.{Snapshot}
 use Rattle.step_table.specs.ServerState.{Asked}
 use Rattle.run_laws.specs.Links.{View}
 
@@ -21,6 +24,18 @@ prepared_by what before = before
 
 abbrev pub prepared : List Entry → Option What
 prepared entries = fold (λ (before : Option What) (entry : Entry). prepared_by entry.what before) None entries
+
+-- the entry that prepared it
+abbrev pub prepare_by : Entry → What → Option Entry → Option Entry
+prepare_by entry (PrepareCreate id) before = Some entry
+prepare_by entry (PrepareDestroy id) before = Some entry
+prepare_by entry (Mksnap id dir name) before = None
+prepare_by entry (Rmsnap id) before = None
+prepare_by entry (Rollback id) before = None
+prepare_by entry what before = before
+
+abbrev pub last_prepare : List Entry → Option Entry
+last_prepare entries = fold (λ (before : Option Entry) (entry : Entry). prepare_by entry entry.what before) None entries
 
 -- the request can come to what is prepared: a `mkdir` to a new snapshot, an `rmdir` to the removal of one
 abbrev pub is_mkdir : Request → Bool
@@ -44,3 +59,7 @@ AsPrepared n c up down s =
 -- the id of the last snapshot that was made when the message was
 abbrev pub snap_of : ToClient → ℕ
 snap_of told = (stamp_of told).snap.0
+
+-- the snapshot is live
+abbrev pub is_live : SnapId → List Snapshot → Bool
+is_live id snaps = list_any (λ (snap : Snapshot). snap.live && snap.id.0 == id.0) snaps

@@ -27,4 +27,5 @@ mod snapshots;
 pub use entries::what_is_entered_is_a_journal;
 pub use snapshots::{
     operations_are_as_prepared, snapshot_stamps_never_fall, snapshots_are_made_in_rising_order,
+    snapshots_are_removed_as_prepared,
 };
