@@ -1,0 +1,1 @@
+// Two files, from their first name to their end.
