@@ -1,5 +1,5 @@
 -- Handles stay apart, and what a handle less or one more leaves open.
-use Rattle.std.proofs.Common.{◌≡◌, ℕ, Bool, true, false, not, ◌==◌, ◌||◌, cond, List, [], ◌∷◌, ◌++◌, filter, find, Option, None, Some, refl, sym, ap, ◌∙◌, arith}
+use Rattle.std.proofs.Common.{◌≡◌, ℕ, Bool, true, false, not, ◌==◌, ◌&&◌, ◌||◌, cond, List, [], ◌∷◌, ◌++◌, filter, find, Option, None, Some, refl, sym, ap, subst, ◌∙◌, arith}
 use Rattle.std.specs.List.{AllByRecursion, list_any}
 use Rattle.std.proofs.lemmas.Bool.Decides.{nat_tests}
 use Rattle.plain_tree.specs.State.{Handle}
@@ -94,7 +94,7 @@ open_found p (opened ∷ handles) found at = found_open (p opened) p opened hand
 parts : (client handle : ℕ) (opened : Handle) → is_handle client handle opened ≡ true → (opened.client ≡ client) × (opened.handle ≡ handle)
 parts client handle opened is = (grind (arith, nat_tests), grind (arith, nat_tests))
 
-swapped : (a b : ℕ) → (a == b) ≡ false → (b == a) ≡ false
+pub swapped : (a b : ℕ) → (a == b) ≡ false → (b == a) ≡ false
 swapped a b off = grind (arith, nat_tests)
 
 module _ (client handle : ℕ) (closed : Handle) (ino : ℕ) (off : (ino == closed.ino.0) ≡ false) where

@@ -11,17 +11,8 @@ use Rattle.std.proofs.lemmas.Bool.Decides.{nat_tests}
 use Rattle.snap_ids.specs.declared.id.Ino.{Ino}
 use Rattle.file_uses.specs.declared.files.FileUse.{FileUse}
 use Rattle.file_uses.specs.Uses.{ino_of, changed, with_new, new_use}
-use Rattle.file_uses.specs.Rising.{Rises, with_ino, without}
+use Rattle.file_uses.specs.Rising.{KeysAbove, KeysRise, Rises, with_ino, without}
 use Rattle.file_uses.proofs.Lists.{all_weaker, all_both, filter_none, filter_all, kept_first, left_out_first}
-
--- the files' numbers are above one
-abbrev pub KeysAbove : ℕ → List (ℕ × FileUse) → Type 0
-KeysAbove n files = AllByRecursion (λ (e : ℕ × FileUse). n < e.0) files
-
--- each number is below those behind it
-abbrev pub KeysRise : List (ℕ × FileUse) → Type 0
-KeysRise [] = Unit {0}
-KeysRise (e ∷ files) = KeysAbove e.0 files × KeysRise files
 
 above_of : (n : ℕ) (files : List (ℕ × FileUse)) → AllByRecursion (λ m. nat_cmp n m ≡ Less) (keys_of files) → KeysAbove n files
 above_of n [] all = tt
@@ -185,9 +176,9 @@ module _ (p q : ℕ × FileUse → Bool) (k : Ino) (f : FileUse → FileUse) (sa
   one_noted : (t b : Bool) (e : ℕ × FileUse) (files : List (ℕ × FileUse)) (h : FileUse) → test e.0 ≡ t → KeysRise (e ∷ files) → cond t (Some e.1) (lookup test files) ≡ Some h → q (k.0, f h) ≡ b → (lookup test files ≡ Some h → picked q (changed k f files) ≡ put_by b (picked p files)) → picked q (changed k f (e ∷ files)) ≡ put_by b (picked p (e ∷ files))
   one_noted true b e files h at rise some is rest =
       let key : e.0 ≡ k.0 = grind (arith, nat_tests) in
-      let use : e.1 ≡ h = cc in
+      let kind : e.1 ≡ h = cc in
       let it : ino_of e ≡ k = ap (λ n. let i : Ino = record { 0 = n } in i) key in
-      own_first e files b key (ap (λ (u : FileUse). q (k.0, f u)) use ∙ is) rise.0
+      own_first e files b key (ap (λ (u : FileUse). q (k.0, f u)) kind ∙ is) rise.0
       ∙ sym (put_here b (p e) (ino_of e) (picked p files) it (picked_above p k.0 files (subst (λ n. KeysAbove n files) key rise.0)))
       ∙ ap (put_by b) (sym (picked_first p e files))
   one_noted false b e files h off rise some is rest =
@@ -213,8 +204,8 @@ module _ (p : ℕ × FileUse → Bool) (k : Ino) where
   one_absent : (t : Bool) (e : ℕ × FileUse) (files : List (ℕ × FileUse)) (h : FileUse) → at_k e.0 ≡ t → KeysRise (e ∷ files) → cond t (Some e.1) (lookup at_k files) ≡ Some h → p (k.0, h) ≡ false → (lookup at_k files ≡ Some h → (AllByRecursion (λ (i : Ino). (i.0 == k.0) ≡ false) (picked p files)) × (length (picked p files) < length files)) → (AllByRecursion (λ (i : Ino). (i.0 == k.0) ≡ false) (picked p (e ∷ files))) × (length (picked p (e ∷ files)) < length (e ∷ files))
   one_absent true e files h at rise some off rest =
       let key : e.0 ≡ k.0 = grind (arith, nat_tests) in
-      let use : e.1 ≡ h = cc in
-      let it : e ≡ (k.0, h) = ap (λ n. let x : ℕ × FileUse = (n, e.1) in x) key ∙ ap (λ (u : FileUse). let x : ℕ × FileUse = (k.0, u) in x) use in
+      let kind : e.1 ≡ h = cc in
+      let it : e ≡ (k.0, h) = ap (λ n. let x : ℕ × FileUse = (n, e.1) in x) key ∙ ap (λ (u : FileUse). let x : ℕ × FileUse = (k.0, u) in x) kind in
       let none : picked p (e ∷ files) ≡ picked p files = picked_first p e files ∙ ap (λ b. before b (ino_of e) (picked p files)) (ap p it ∙ off) in
       let few : length (picked p files) ≤ length files = picked_count p files in
       let long : length (picked p (e ∷ files)) ≡ length (picked p files) = ap length none in
@@ -265,8 +256,8 @@ module _ (k : Ino) (f : FileUse → FileUse) (h : FileUse) where
   one_set true e files at rise some rest =
       let same : (e.0 == k.0) ≡ true = grind (arith, nat_tests) in
       let key : e.0 ≡ k.0 = grind (arith, nat_tests) in
-      let use : e.1 ≡ h = cc in
-      let it : cond (e.0 == k.0) (e.0, f e.1) e ≡ (e.0, f h) = rw same (ap (λ (u : FileUse). let x : ℕ × FileUse = (e.0, f u) in x) use) in
+      let kind : e.1 ≡ h = cc in
+      let it : cond (e.0 == k.0) (e.0, f e.1) e ≡ (e.0, f h) = rw same (ap (λ (u : FileUse). let x : ℕ × FileUse = (e.0, f u) in x) kind) in
       sym (ap (λ (x : ℕ × FileUse). x ∷ changed k f files) it ∙ ap (λ es. (e.0, f h) ∷ es) (above_changed k f files (subst (λ n. KeysAbove n files) key rise.0)))
   one_set false e files off rise some rest =
       let other : (e.0 == k.0) ≡ false = grind (arith, nat_tests) in
@@ -276,6 +267,23 @@ module _ (k : Ino) (f : FileUse → FileUse) (h : FileUse) where
   pub set_changed : (files : List (ℕ × FileUse)) → KeysRise files → lookup (is_at (nat_cmp k.0)) files ≡ Some h → set_value (is_at (nat_cmp k.0)) files (f h) ≡ changed k f files
   set_changed [] rise found = cc
   set_changed (e ∷ files) rise found = one_set (is_at (nat_cmp k.0) e.0) e files refl rise found (λ some. set_changed files rise.1 some)
+
+-- the files rise as before
+above_kept : (n : ℕ) (k : Ino) (f : FileUse → FileUse) (b : Bool) (e : ℕ × FileUse) (files : List (ℕ × FileUse)) → n < e.0 → KeysAbove n files → KeysAbove n (cond b (e.0, f e.1) e ∷ files)
+above_kept n k f true e files here later = (here, later)
+above_kept n k f false e files here later = (here, later)
+
+changed_above : (n : ℕ) (k : Ino) (f : FileUse → FileUse) (files : List (ℕ × FileUse)) → KeysAbove n files → KeysAbove n (changed k f files)
+changed_above n k f [] above = tt
+changed_above n k f (e ∷ files) above = above_kept n k f (e.0 == k.0) e (changed k f files) above.0 (changed_above n k f files above.1)
+
+one_rising : (k : Ino) (f : FileUse → FileUse) (b : Bool) (e : ℕ × FileUse) (files : List (ℕ × FileUse)) → KeysAbove e.0 files → KeysRise files → KeysRise (cond b (e.0, f e.1) e ∷ files)
+one_rising k f true e files above rise = (above, rise)
+one_rising k f false e files above rise = (above, rise)
+
+pub changed_rise : (k : Ino) (f : FileUse → FileUse) (files : List (ℕ × FileUse)) → KeysRise files → KeysRise (changed k f files)
+changed_rise k f [] rise = tt
+changed_rise k f (e ∷ files) rise = one_rising k f (e.0 == k.0) e (changed k f files) (changed_above e.0 k f files rise.0) (changed_rise k f files rise.1)
 
 -- there are as many files as before
 pub changed_count : (k : Ino) (f : FileUse → FileUse) (files : List (ℕ × FileUse)) → length (changed k f files) ≡ length files
@@ -307,3 +315,21 @@ module _ (p : ℕ × FileUse → Bool) (k : Ino) (fails : p (k.0, new_use) ≡ f
   pub picked_new : (files : List (ℕ × FileUse)) → picked p (with_new k files) ≡ picked p files
   picked_new [] = new_front []
   picked_new (e ∷ files) = one_picked (nat_lt k.0 e.0) e files (picked_new files)
+
+  -- it is one file more
+  one_longer : (b : Bool) (e : ℕ × FileUse) (files : List (ℕ × FileUse)) → length (with_new k files) ≡ length files + 1 → length (cond b ((k.0, new_use) ∷ e ∷ files) (e ∷ with_new k files)) ≡ length (e ∷ files) + 1
+  one_longer true e files rest = omega arith
+  one_longer false e files rest = omega arith
+
+  pub new_count : (files : List (ℕ × FileUse)) → length (with_new k files) ≡ length files + 1
+  new_count [] = refl
+  new_count (e ∷ files) = one_longer (nat_lt k.0 e.0) e files (new_count files)
+
+-- where the file isn't there nothing is put in its place
+one_kept_out : (b : Bool) (e : ℕ × FileUse) (rest more : List (ℕ × FileUse)) (h : FileUse) (found : Option FileUse) → cond b (Some e.1) found ≡ None → (found ≡ None → more ≡ rest) → cond b ((e.0, h) ∷ rest) (e ∷ more) ≡ e ∷ rest
+one_kept_out true e rest more h found none later = cc
+one_kept_out false e rest more h found none later = ap (λ es. e ∷ es) (later none)
+
+pub set_missing : (test : ℕ → Bool) (files : List (ℕ × FileUse)) (h : FileUse) → lookup test files ≡ None → set_value test files h ≡ files
+set_missing test [] h none = refl
+set_missing test (e ∷ files) h none = one_kept_out (test e.0) e files (set_value test files h) h (lookup test files) none (λ off. set_missing test files h off)

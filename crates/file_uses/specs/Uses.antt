@@ -45,9 +45,12 @@ dead_of uses = map ino_of (filter (is_dead uses.handles) uses.files)
 abbrev pub is_among : List Ino → Ino → Bool
 is_among sent ino = list_any (λ (other : Ino). other.0 == ino.0) sent
 
+abbrev pub is_unsent : List Ino → Ino → Bool
+is_unsent sent ino = not (is_among sent ino)
+
 -- the least dead file that isn't in a list
 abbrev pub next_dead : List Ino → Uses → Option Ino
-next_dead sent uses = find (λ ino. not (is_among sent ino)) (dead_of uses)
+next_dead sent uses = find (is_unsent sent) (dead_of uses)
 
 -- a new file has one name
 abbrev pub new_use : FileUse

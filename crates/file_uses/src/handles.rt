@@ -101,13 +101,7 @@ impl Handles {
     }
 
     // A client gets a handle that it doesn't have.
-    pub fn push(
-        &mut self,
-        client: u8,
-        handle: u8,
-        ino: Ino,
-        writable: bool,
-    ) -> Result<(), NoMemory>
+    pub fn push(&mut self, client: u8, handle: u8, ino: Ino, writable: bool) -> Result<(), NoMemory>
         requires { open_of self.old client handle ≡ None }
         ensures opened { OnOk result (self.new ≡ self.old
             ++ record { client = client; handle = handle; ino = ino; writable = writable } ∷ []) }

@@ -105,13 +105,7 @@ impl FileUses {
     }
 
     /// A client opens a file under a handle of its own. At want of memory all is as before.
-    pub fn open(
-        &mut self,
-        client: u8,
-        handle: u8,
-        ino: Ino,
-        writable: bool,
-    ) -> Result<(), NoMemory>
+    pub fn open(&mut self, client: u8, handle: u8, ino: Ino, writable: bool) -> Result<(), NoMemory>
         requires free { open_of self.old.handles client handle ≡ None }
         requires there { IsSome (files.use_of self.old ino) }
         ensures opened { OnOk result (self.new ≡ files.opened

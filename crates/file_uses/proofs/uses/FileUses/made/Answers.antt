@@ -1,0 +1,38 @@
+use Rattle.std.proofs.Common.{◌≡◌, ℕ, ◌+◌, ◌<◌, ◌≤◌, ◌==◌, Bool, true, false, cond, List, [], ◌∷◌, ◌++◌, length, Option, None, Some, refl, sym, ap, subst, ◌∙◌, arith}
+use Rattle.std.specs.List.{AllByRecursion}
+use Rattle.std.specs.Ordering.{nat_cmp}
+use Rattle.std.specs.BTreeMap.{is_at, insert_entry}
+use Rattle.snap_ids.specs.declared.id.Ino.{Ino}
+use Rattle.plain_tree.specs.State.{Handle}
+use Rattle.plain_tree.specs.Change.{is_handle, open_of}
+use Rattle.file_uses.specs.declared.files.FileUse.{FileUse}
+use Rattle.file_uses.specs.Handles.{is_open, without_handle}
+use Rattle.file_uses.specs.Uses.{Uses, use_of, is_dead, made, linked, unlinked, opened, closed, dropped, changed, with_new, new_use, one_more, one_less, as_dropped}
+use Rattle.file_uses.specs.Rising.{KeysRise, Rises, with_ino, without}
+use Rattle.file_uses.proofs.Apart.{open_more, open_new, open_found, none_passes, swapped}
+use Rattle.file_uses.proofs.Deaths.{picked, picked_rise, picked_new, absent, set_changed, changed_rise, changed_count, inserted_new, new_count, keys_rise}
+use Rattle.file_uses.proofs.Steps.{found_in, named_lives, open_lives, dropped_lives, more_lives, raised, buried, raised_same, buried_same, missing_same, counted_lives, there_found, none_opened, some_opened}
+use Rattle.file_uses.proofs.uses.FileUses.made.Goals as goal
+
+pub invariant_of-self-2 : goal.invariant_of-self-2
+invariant_of-self-2 c =
+    let k = c.args.ino in
+    let files = c.self.inside.files.entries in
+    let hs = c.self.inside.handles in
+    let none : found_in files k ≡ None = ap (λ (u : Uses). use_of u k) c.self.view_is ∙ c.requires.absent in
+    let entries : c.insert.new.self.entries ≡ with_new k files = c.in_ok-insert.ensures.entries ∙ inserted_new k files none in
+    let lives : is_dead hs (k.0, new_use) ≡ false = refl in
+    let long : length c.insert.new.self.entries ≡ length files + 1 = ap length entries ∙ new_count (is_dead hs) k lives files in
+    record {
+      files = keys_rise c.insert.new.self.entries c.insert.ensures.ordered;
+      dead = c.reserve.ensures.items ∙ c.self.invariant.dead ∙ sym (picked_new (is_dead hs) k lives files) ∙ ap (picked (is_dead hs)) (sym entries);
+      room = omega (arith, c.in_ok-reserve.ensures.ok, c.len.ensures.len);
+    }
+
+pub returns-clause-made : goal.returns-clause-made
+returns-clause-made c =
+    let k = c.args.ino in
+    let files = c.self.inside.files.entries in
+    let none : found_in files k ≡ None = ap (λ (u : Uses). use_of u k) c.self.view_is ∙ c.requires.absent in
+    let entries : c.insert.new.self.entries ≡ with_new k files = c.in_ok-insert.ensures.entries ∙ inserted_new k files none in
+    ap (λ (es : List (ℕ × FileUse)). let u : Uses = record { files = es; handles = c.self.inside.handles } in u) entries ∙ ap (made k) c.self.view_is
