@@ -1,5 +1,5 @@
 -- What one changed file makes of the list of the dead ones.
-use Rattle.std.proofs.Common.{◌≡◌, ℕ, ◌+◌, ◌<◌, ◌≤◌, zero, suc, Bool, true, false, not, ◌==◌, cond, List, [], ◌∷◌, ◌++◌, length, map, filter, find, Option, None, Some, nat_lt, refl, sym, ap, ◌∙◌, subst, arith}
+use Rattle.std.proofs.Common.{◌≡◌, ℕ, ◌+◌, ◌<◌, ◌≤◌, suc, Bool, true, false, not, ◌==◌, cond, List, [], ◌∷◌, ◌++◌, length, map, filter, Option, None, Some, nat_lt, refl, sym, ap, ◌∙◌, subst, arith}
 use Rattle.std.specs.List.{AllByRecursion}
 use Rattle.std.specs.List.Sorted.{IsStrictlySortedBy}
 use Rattle.std.specs.Map.{lookup, set_value, keys_of}
@@ -12,7 +12,7 @@ use Rattle.snap_ids.specs.declared.id.Ino.{Ino}
 use Rattle.file_uses.specs.declared.files.FileUse.{FileUse}
 use Rattle.file_uses.specs.Uses.{ino_of, changed, with_new, new_use}
 use Rattle.file_uses.specs.Rising.{KeysAbove, KeysRise, Rises, with_ino, without}
-use Rattle.file_uses.proofs.Lists.{all_weaker, all_both, filter_none, filter_all, kept_first, left_out_first}
+use Rattle.file_uses.proofs.Lists.{all_weaker, filter_none, filter_all}
 
 above_of : (n : ℕ) (files : List (ℕ × FileUse)) → AllByRecursion (λ m. nat_cmp n m ≡ Less) (keys_of files) → KeysAbove n files
 above_of n [] all = tt

@@ -4,7 +4,6 @@ use Rattle.std.specs.List.{list_any}
 use Rattle.snap_ids.specs.declared.id.Ino.{Ino}
 use Rattle.plain_tree.specs.State.{Handle}
 use Rattle.plain_tree.specs.Change.{is_handle, open_of}
-use Rattle.file_uses.specs.declared.handles.Opened.{Opened}
 use Rattle.file_uses.specs.declared.handles.OpenFile.{OpenFile}
 use Rattle.file_uses.specs.Handles.{opened_of, is_open, without_handle}
 use Rattle.file_uses.specs.Kept.{handle_of, is_of, keeps_open}

@@ -1,20 +1,17 @@
 -- What each call makes of the list of the dead files.
-use Rattle.std.proofs.Common.{◌≡◌, ℕ, ◌+◌, ◌-◌, ◌<◌, ◌≤◌, Bool, true, false, not, ◌==◌, ◌&&◌, cond, List, [], ◌∷◌, ◌++◌, length, map, find, Option, None, Some, IsSome, option_map, refl, sym, ap, ◌∙◌, subst, arith}
-use Rattle.std.specs.List.{AllByRecursion}
+use Rattle.std.proofs.Common.{◌≡◌, ℕ, ◌<◌, Bool, true, false, not, ◌==◌, ◌&&◌, cond, List, Option, None, Some, IsSome, option_map, refl, sym, ap, ◌∙◌, subst, arith}
 use Rattle.std.specs.Map.{lookup}
 use Rattle.std.specs.Ordering.{nat_cmp}
 use Rattle.std.specs.BTreeMap.{is_at}
 use Rattle.std.proofs.lemmas.Bool.Decides.{nat_tests}
 use Rattle.snap_ids.specs.declared.id.Ino.{Ino}
 use Rattle.plain_tree.specs.State.{Handle}
-use Rattle.plain_tree.specs.Change.{open_of}
 use Rattle.file_uses.specs.declared.files.FileUse.{FileUse}
 use Rattle.file_uses.specs.declared.handles.Opened.{Opened}
-use Rattle.file_uses.specs.Handles.{opened_of, is_open, without_handle, AreApart}
-use Rattle.file_uses.specs.Uses.{Uses, use_of, names_of, names_in, is_dead, dead_of, changed, with_new, new_use, one_more, one_less, as_dropped}
-use Rattle.file_uses.specs.Rising.{KeysRise, Rises, with_ino, without}
-use Rattle.file_uses.proofs.Apart.{open_more, open_new, open_found}
-use Rattle.file_uses.proofs.Deaths.{picked, noted, absent, without_off, steady, changed_same, picked_rise, picked_new}
+use Rattle.file_uses.specs.Handles.{opened_of, is_open}
+use Rattle.file_uses.specs.Uses.{Uses, use_of, names_of, names_in, is_dead, changed, one_more, as_dropped}
+use Rattle.file_uses.specs.Rising.{KeysRise, with_ino, without}
+use Rattle.file_uses.proofs.Deaths.{picked, noted, absent, without_off, steady, changed_same}
 
 -- what is known of a file in the files
 abbrev pub found_in : List (ℕ × FileUse) → Ino → Option FileUse

@@ -1,6 +1,6 @@
-use Rattle.std.proofs.Common.{List, find, option_map, ap, ◌∙◌}
+use Rattle.std.proofs.Common.{List, find, ap, ◌∙◌}
 use Rattle.snap_ids.specs.declared.id.Ino.{Ino}
-use Rattle.file_uses.specs.Uses.{Uses, is_unsent, next_dead}
+use Rattle.file_uses.specs.Uses.{is_unsent, next_dead}
 use Rattle.file_uses.proofs.Steps.{same_option}
 use Rattle.file_uses.proofs.uses.FileUses.dead.Goals as goal
 

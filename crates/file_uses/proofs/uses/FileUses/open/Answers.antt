@@ -1,17 +1,11 @@
-use Rattle.std.proofs.Common.{◌≡◌, ℕ, ◌+◌, ◌<◌, ◌≤◌, ◌==◌, Bool, true, false, cond, List, [], ◌∷◌, ◌++◌, length, Option, None, Some, refl, sym, ap, subst, ◌∙◌, arith}
-use Rattle.std.specs.List.{AllByRecursion}
-use Rattle.std.specs.Ordering.{nat_cmp}
-use Rattle.std.specs.BTreeMap.{is_at, insert_entry}
-use Rattle.snap_ids.specs.declared.id.Ino.{Ino}
+use Rattle.std.proofs.Common.{◌≡◌, ℕ, ◌==◌, false, List, [], ◌∷◌, ◌++◌, sym, ap, subst, ◌∙◌, arith}
 use Rattle.plain_tree.specs.State.{Handle}
-use Rattle.plain_tree.specs.Change.{is_handle, open_of}
-use Rattle.file_uses.specs.declared.files.FileUse.{FileUse}
-use Rattle.file_uses.specs.Handles.{is_open, without_handle}
-use Rattle.file_uses.specs.Uses.{Uses, use_of, is_dead, made, linked, unlinked, opened, closed, dropped, changed, with_new, new_use, one_more, one_less, as_dropped}
-use Rattle.file_uses.specs.Rising.{KeysRise, Rises, with_ino, without}
-use Rattle.file_uses.proofs.Apart.{open_more, open_new, open_found, none_passes, swapped}
-use Rattle.file_uses.proofs.Deaths.{picked, picked_rise, picked_new, absent, set_changed, changed_rise, changed_count, inserted_new, new_count, keys_rise}
-use Rattle.file_uses.proofs.Steps.{found_in, named_lives, open_lives, dropped_lives, more_lives, raised, buried, raised_same, buried_same, missing_same, counted_lives, there_found, none_opened, some_opened}
+use Rattle.file_uses.specs.Handles.{is_open}
+use Rattle.file_uses.specs.Uses.{is_dead}
+use Rattle.file_uses.specs.Rising.{Rises, without}
+use Rattle.file_uses.proofs.Apart.{open_more, open_new, swapped}
+use Rattle.file_uses.proofs.Deaths.{picked, picked_rise}
+use Rattle.file_uses.proofs.Steps.{open_lives, raised_same, there_found}
 use Rattle.file_uses.proofs.uses.FileUses.open.Goals as goal
 
 pub take_out-requires : goal.take_out-requires

@@ -1,17 +1,11 @@
-use Rattle.std.proofs.Common.{◌≡◌, ℕ, ◌+◌, ◌<◌, ◌≤◌, ◌==◌, Bool, true, false, cond, List, [], ◌∷◌, ◌++◌, length, Option, None, Some, refl, sym, ap, subst, ◌∙◌, arith}
+use Rattle.std.proofs.Common.{◌≡◌, ℕ, ◌<◌, ◌==◌, Bool, false, cond, List, length, Some, refl, sym, ap, subst, ◌∙◌, arith}
 use Rattle.std.specs.List.{AllByRecursion}
-use Rattle.std.specs.Ordering.{nat_cmp}
-use Rattle.std.specs.BTreeMap.{is_at, insert_entry}
 use Rattle.snap_ids.specs.declared.id.Ino.{Ino}
-use Rattle.plain_tree.specs.State.{Handle}
-use Rattle.plain_tree.specs.Change.{is_handle, open_of}
 use Rattle.file_uses.specs.declared.files.FileUse.{FileUse}
-use Rattle.file_uses.specs.Handles.{is_open, without_handle}
-use Rattle.file_uses.specs.Uses.{Uses, use_of, is_dead, made, linked, unlinked, opened, closed, dropped, changed, with_new, new_use, one_more, one_less, as_dropped}
-use Rattle.file_uses.specs.Rising.{KeysRise, Rises, with_ino, without}
-use Rattle.file_uses.proofs.Apart.{open_more, open_new, open_found, none_passes, swapped}
-use Rattle.file_uses.proofs.Deaths.{picked, picked_rise, picked_new, absent, set_changed, changed_rise, changed_count, inserted_new, new_count, keys_rise}
-use Rattle.file_uses.proofs.Steps.{found_in, named_lives, open_lives, dropped_lives, more_lives, raised, buried, raised_same, buried_same, missing_same, counted_lives, there_found, none_opened, some_opened}
+use Rattle.file_uses.specs.Uses.{Uses, is_dead, unlinked, changed, one_less}
+use Rattle.file_uses.specs.Rising.{KeysRise, Rises, with_ino}
+use Rattle.file_uses.proofs.Deaths.{picked, picked_rise, absent, set_changed, changed_rise, changed_count}
+use Rattle.file_uses.proofs.Steps.{found_in, buried, counted_lives}
 use Rattle.file_uses.proofs.uses.FileUses.unlinked.Goals as goal
 
 pub note-requires-clause-rising : goal.note-requires-clause-rising
