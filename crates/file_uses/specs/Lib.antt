@@ -1,0 +1,5 @@
+pub mod Handles
+pub mod Kept
+pub mod Uses
+pub mod Rising
+pub mod Fields
