@@ -1,3 +1,4 @@
+pub mod Listed
 pub mod Trees
 pub mod Lives
 pub mod Moments

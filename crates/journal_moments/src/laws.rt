@@ -1,8 +1,11 @@
 // What one more entry does to the tree at each id.
-ghost use Rattle.std.specs.Prelude.{◌≡◌, ◌<◌, ◌≤◌, ◌||◌, ◌++◌, ◌∷◌, [], List, true};
+ghost use Rattle.std.specs.Prelude.{◌≡◌, ◌<◌, ◌≤◌, ◌||◌, ◌++◌, ◌∷◌, [], List, true, map, filter, reverse};
 ghost use Rattle.snap_ids.specs.declared.id.SnapId.{SnapId};
 ghost use Rattle.snap_ids.specs.declared.id.TheConstants.{NOSNAP};
+ghost use Rattle.snap_ids.specs.Context.{is_listed};
 ghost use Rattle.plain_types.specs.declared.entry.Entry.{Entry};
+ghost use Rattle.plain_tree.specs.State.{Snapshot};
+ghost use Rattle.plain_tree.specs.Change.{is_live};
 ghost use Rattle.plain_journal.specs.Entries.{applied, makes_snap, state_after, tree_at};
 ghost use Rattle.plain_journal.specs.Legal.{is_journal};
 ghost use Rattle.journal_laws.specs.Entries.{was_made};
@@ -26,6 +29,13 @@ pub fn a_live_snapshot_was_live_or_is_made()
     ensures { (entries : List Entry) (e : Entry) (s : SnapId)
         → is_live_snap s (state_after (entries ++ e ∷ [])).snaps ≡ true
         → (is_live_snap s (state_after entries).snaps || makes_snap s e.what) ≡ true }
+{}
+
+/// A list of the ids of the live snapshots, the last one first, has these and no other.
+pub fn a_list_of_live_ids_has_each()
+    ensures { (snaps : List Snapshot) (ids : List SnapId)
+        → reverse ids ≡ map (λ (snap : Snapshot). snap.id) (filter is_live snaps)
+        → (s : SnapId) → is_listed s ids ≡ is_live_snap s snaps }
 {}
 
 /// The tree of a snapshot that was made stays as it was.
