@@ -1,0 +1,50 @@
+// What is true of every journal, and of the files in use that stand for it.
+ghost use Rattle.std.specs.Prelude.{◌≡◌, ◌++◌, ◌∷◌, [], ℕ, List, Bool, true};
+ghost use Rattle.snap_ids.specs.declared.id.Ino.{Ino};
+ghost use Rattle.plain_types.specs.declared.entry.Entry.{Entry};
+ghost use Rattle.plain_types.specs.declared.entry.What.TheVariants.{Link, OpenFile, CloseFile, Deadfile};
+ghost use Rattle.plain_journal.specs.Legal.{is_journal};
+ghost use Rattle.plain_journal.specs.Table.{dead};
+ghost use Rattle.file_uses.specs.Uses.{no_file, linked, opened, closed, dropped, dead_of};
+ghost use Rattle.journal_uses.specs.Stands.{uses_after, keeps_uses};
+
+/// A new value stands for the journal without entries.
+pub fn a_new_value_stands()
+    ensures { uses_after [] ≡ no_file }
+{}
+
+/// The dead files are those of the journal.
+pub fn the_dead_files_are_the_same()
+    ensures { (entries : List Entry) → dead_of (uses_after entries) ≡ dead entries }
+{}
+
+/// A further name is one more of its file, and changes nothing else.
+pub fn a_link_is_a_name_more()
+    ensures { (entries : List Entry) (e : Entry) (ino dir : Ino) (name : List ℕ)
+        → is_journal (entries ++ e ∷ []) ≡ true → e.what ≡ Link ino dir name
+        → uses_after (entries ++ e ∷ []) ≡ linked ino (uses_after entries) }
+{}
+
+/// What a client opens is open under its handle until it closes that.
+pub fn handles_are_opened_and_closed()
+    ensures opened { (entries : List Entry) (e : Entry) (handle : ℕ) (ino : Ino) (writable : Bool)
+        → is_journal (entries ++ e ∷ []) ≡ true → e.what ≡ OpenFile handle ino writable
+        → uses_after (entries ++ e ∷ [])
+        ≡ opened (record { client = e.client; handle = handle; ino = ino; writable = writable }) (uses_after entries) }
+    ensures closed { (entries : List Entry) (e : Entry) (handle : ℕ)
+        → is_journal (entries ++ e ∷ []) ≡ true → e.what ≡ CloseFile handle
+        → uses_after (entries ++ e ∷ []) ≡ closed e.client handle (uses_after entries) }
+{}
+
+/// A file that the store has dropped is dropped.
+pub fn a_dropped_file_is_dropped()
+    ensures { (entries : List Entry) (e : Entry) (ino : Ino)
+        → is_journal (entries ++ e ∷ []) ≡ true → e.what ≡ Deadfile ino
+        → uses_after (entries ++ e ∷ []) ≡ dropped ino (uses_after entries) }
+{}
+
+/// A mode, a snapshot, a flush and a barrier change nothing.
+pub fn most_entries_change_nothing()
+    ensures { (entries : List Entry) (e : Entry) → is_journal (entries ++ e ∷ []) ≡ true
+        → keeps_uses e.what ≡ true → uses_after (entries ++ e ∷ []) ≡ uses_after entries }
+{}

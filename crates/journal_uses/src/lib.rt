@@ -1,0 +1,9 @@
+//! How the files in use stand for a journal. The functions here have no body, and their contracts are the laws.
+#![tactic(auto)]
+
+mod laws;
+
+pub use laws::{
+    a_dropped_file_is_dropped, a_link_is_a_name_more, a_new_value_stands,
+    handles_are_opened_and_closed, most_entries_change_nothing, the_dead_files_are_the_same,
+};
