@@ -424,3 +424,18 @@ strange_run n w (step ∷ steps) strange = strange_run n (after_row w (row w ste
 
 pub strangers : (script : Script) (steps : List Step) (n : ℕ) → Strange n (after (start script) steps)
 strangers script steps n = strange_run n (start script) steps (λ none. (refl, record { none = tt; in_hand = tt; in_held = tt; in_deferred = tt; in_operation = tt }))
+
+-- so each effect is a client's
+itself : (n : ℕ) → (n == n) ≡ true
+itself n = grind (arith, nat_tests)
+
+pub effect_law : (script : Script) (steps : List Step) (before later : List Entry) (e : Entry) → (after (start script) steps).server.entries ≡ before ++ e ∷ later → is_some (change_in e.what) ≡ true → is_some (client (after (start script) steps).clients e.client) ≡ true
+effect_law script steps before later e entries is = by_client (client (after (start script) steps).clients e.client) refl
+  where
+    its : (b : Bool) → b ≡ true → (b && (e.client == e.client)) ≡ true
+    its true is = itself e.client
+    its false is = absurd (true≢false (sym is))
+
+    by_client : (o : Option Client) → client (after (start script) steps).clients e.client ≡ o → is_some o ≡ true
+    by_client (Some c) at = refl
+    by_client None at = absurd (true≢false (sym (its (is_some (change_in e.what)) is) ∙ none_at e.client before later e (subst (NoneOf e.client) entries (strangers script steps e.client at).1.none)))

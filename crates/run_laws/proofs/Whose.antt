@@ -1,5 +1,5 @@
 -- What is prepared is of the client and the number of the outstanding operation, along each run.
-use Rattle.std.proofs.Common.{◌≡◌, ℕ, ◌+◌, List, [], ◌∷◌, ◌++◌, false, true, true≢false, Option, None, Some, refl, sym, subst, IfSome}
+use Rattle.std.proofs.Common.{◌≡◌, ℕ, List, [], ◌∷◌, ◌++◌, false, true, true≢false, Option, None, Some, refl, sym, subst, IfSome}
 use Rattle.std.proofs.lemmas.List.Sums.{fold-append}
 use Rattle.plain_types.specs.declared.entry.Entry.{Entry}
 use Rattle.plain_types.specs.declared.entry.What.{What}

@@ -24,7 +24,7 @@ pub use tables::{
 mod entries;
 mod snapshots;
 
-pub use entries::what_is_entered_is_a_journal;
+pub use entries::{effects_are_of_clients, what_is_entered_is_a_journal};
 pub use snapshots::{
     operations_are_as_prepared, snapshot_stamps_never_fall, snapshots_are_made_in_rising_order,
     snapshots_are_removed_as_prepared,
