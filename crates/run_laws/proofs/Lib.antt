@@ -27,3 +27,11 @@ mod Outgoing
 mod Carried
 mod Delivered
 mod Determined
+mod Known
+mod Ruled
+mod Held
+mod Holds
+mod Knowing
+mod Counted
+mod Numbering
+mod Taking

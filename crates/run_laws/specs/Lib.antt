@@ -4,3 +4,4 @@ pub mod Links
 pub mod Requests
 pub mod Tables
 pub mod Plain
+pub mod FlushNumbers

@@ -1,0 +1,71 @@
+-- The numbers of one client's flushes: as they stand in the journal, as the client keeps them, and on their way.
+use Rattle.std.specs.Prelude.{◌≡◌, ◌≤◌, ℕ, ◌+◌, Bool, true, ◌&&◌, ◌==◌, nat_lt, List, [], ◌∷◌, filter, take, if◌then◌else◌, IfSome}
+use Rattle.plain_types.specs.declared.entry.Entry.{Entry}
+use Rattle.plain_types.specs.declared.message.FlushMsg.{FlushMsg}
+use Rattle.plain_types.specs.declared.message.ToServer.{ToServer}
+use Rattle.plain_types.specs.declared.message.ToServer.TheVariants.{Flush}
+use Rattle.plain_journal.specs.Table.{is_flush, last_flush}
+use Rattle.step_table.specs.Messages.{to_server_fits}
+use Rattle.step_table.specs.ServerState.{number_of, is_current}
+use Rattle.step_table.specs.Flushes.{knows_file}
+use Rattle.run_laws.specs.Links.{View}
+
+-- an entry that is a flush of a client
+abbrev pub is_flush_of : ℕ → Entry → Bool
+is_flush_of n e = is_flush e.what && e.client == n
+
+-- the number of a client's last flush after one more entry
+abbrev pub next_flush : ℕ → ℕ → Entry → ℕ
+next_flush n last e = if is_flush_of n e then e.number else last
+
+-- behind a number, the client's flushes among the entries have the next numbers, one by one
+abbrev pub Counted : ℕ → ℕ → List Entry → Type 0
+Counted n last [] = Unit {0}
+Counted n last (e ∷ entries) = (is_flush_of n e ≡ true → e.number ≡ last + 1) × Counted n (next_flush n last e) entries
+
+-- In the journal a client's flushes are numbered 1, 2, .. without a gap and none twice, and none that it didn't send.
+abbrev pub NoGap : View
+NoGap n c up down s = Counted n 0 s.entries × (last_flush s.entries n ≤ c.flushes)
+
+-- the flushes with a number above one
+abbrev pub above : ℕ → List FlushMsg → List FlushMsg
+above low flushes = filter (λ (f : FlushMsg). nat_lt low f.number) flushes
+
+-- flushes with the numbers behind `low`, one by one, up to `high`
+abbrev pub Follow : ℕ → ℕ → List FlushMsg → Type 0
+Follow low high [] = low ≡ high
+Follow low high (f ∷ flushes) = (f.number ≡ low + 1) × Follow (low + 1) high flushes
+
+-- What a client has sent and what isn't durable is among what it keeps, one by one up to its last flush: so what it counts
+-- as acknowledged is durable.
+abbrev pub Kept : View
+Kept n c up down s =
+    let last = last_flush (take s.durable s.entries) n in Follow last c.flushes (above last c.unacked)
+
+-- the flushes of a connection on their way to the server
+abbrev pub flush_at : ℕ → ToServer → List FlushMsg → List FlushMsg
+flush_at k (Flush conn f) rest = if conn == k then f ∷ rest else rest
+flush_at k message rest = rest
+
+abbrev pub flushes_of : ℕ → List ToServer → List FlushMsg
+flushes_of k [] = []
+flushes_of k (m ∷ up) = flush_at k m (flushes_of k up)
+
+-- Where a client is connected, what is on its way of this connection is what it keeps behind the last flush that the
+-- server took.
+abbrev pub OnTheWay : View
+OnTheWay n c up down s =
+    IfSome (number_of s.current n) (λ k. flushes_of k up ≡ above (last_flush s.entries n) c.unacked)
+
+-- A flush of the current connection that comes next has the number behind the last one that the server took: none comes
+-- twice, and none is left out.
+abbrev pub ComesNext : View
+ComesNext n c up down s =
+    (conn : ℕ) (f : FlushMsg) (rest : List ToServer)
+    → up ≡ Flush conn f ∷ rest → is_current s n conn ≡ true → f.number ≡ last_flush s.entries n + 1
+
+-- A flush that comes next is of a file that the server knows, and its numbers can be.
+abbrev pub IsTaken : View
+IsTaken n c up down s =
+    (conn : ℕ) (f : FlushMsg) (rest : List ToServer)
+    → up ≡ Flush conn f ∷ rest → (to_server_fits (Flush conn f) ≡ true) × (knows_file s f.ino ≡ true)
