@@ -1,5 +1,5 @@
 -- Flushes that follow one by one: lists of entries, and of flushes.
-use Rattle.std.proofs.Common.{◌≡◌, ◌≤◌, ℕ, ◌+◌, List, [], ◌∷◌, ◌++◌, drop, take, filter, fold, length, Bool, true, false, not, cond, refl, sym, ap, ◌∙◌, subst, arith}
+use Rattle.std.proofs.Common.{◌≡◌, ◌<◌, ◌≤◌, ℕ, ◌+◌, List, [], ◌∷◌, ◌++◌, drop, take, filter, fold, length, Bool, true, false, not, cond, refl, sym, ap, ◌∙◌, subst, arith}
 use Rattle.std.proofs.lemmas.List.{take-append-drop}
 use Rattle.std.proofs.lemmas.List.Sums.{fold-append}
 use Rattle.std.proofs.lemmas.Bool.Decides.{nat_tests}
@@ -9,8 +9,9 @@ use Rattle.plain_types.specs.declared.message.FlushMsg.{FlushMsg}
 use Rattle.plain_types.specs.declared.message.ToServer.{ToServer}
 use Rattle.plain_types.specs.declared.message.ToServer.TheVariants.{Connect, Flush}
 use Rattle.plain_journal.specs.Table.{last_flush}
+use Rattle.step_table.specs.Flushes.{flush_entry}
 use Rattle.run_laws.specs.Links.{Offer, Behind}
-use Rattle.run_laws.specs.FlushNumbers.{is_flush_of, next_flush, Counted, above, Follow, flushes_of}
+use Rattle.run_laws.specs.FlushNumbers.{is_flush_of, next_flush, Counted, above, Follow, AgreeAt, AllAgree, flushes_of}
 use Rattle.run_laws.proofs.Growing.{take_take}
 use Rattle.run_laws.proofs.Holds.{NoFlush}
 
@@ -167,3 +168,84 @@ pub of_behind : (o : Offer) (j k : ℕ) (up : List ToServer) → Behind o j up �
 of_behind o j k [] is = refl
 of_behind o j k (Connect conn said flushes asked ∷ up) is = of_behind o (j + 1) k up is.1
 of_behind o j k (m ∷ up) is = absurd is
+
+-- entries that say what the flushes say
+agree_entry : (n : ℕ) (f : FlushMsg) (entries : List Entry) (e : Entry) → (is_flush_of n e ≡ true → e.number ≡ f.number → e.what ≡ flush_entry f) → AgreeAt n f entries → AgreeAt n f (entries ++ e ∷ [])
+agree_entry n f [] e says agree = (says, tt)
+agree_entry n f (x ∷ entries) e says agree = (agree.0, agree_entry n f entries e says agree.1)
+
+-- an entry says what each flush of its number says
+abbrev pub SaysAll : Entry → List FlushMsg → Type 0
+SaysAll e [] = Unit {0}
+SaysAll e (f ∷ fs) = (e.number ≡ f.number → e.what ≡ flush_entry f) × SaysAll e fs
+
+pub all_agree_entry : (n : ℕ) (entries : List Entry) (e : Entry) (fs : List FlushMsg) → (is_flush_of n e ≡ true → SaysAll e fs) → AllAgree n entries fs → AllAgree n (entries ++ e ∷ []) fs
+all_agree_entry n entries e [] says all = tt
+all_agree_entry n entries e (f ∷ fs) says all = (agree_entry n f entries e (λ is. (says is).0) all.0, all_agree_entry n entries e fs (λ is. (says is).1) all.1)
+
+agree_front : (n : ℕ) (f : FlushMsg) (entries more : List Entry) → AgreeAt n f (entries ++ more) → AgreeAt n f entries
+agree_front n f [] more agree = tt
+agree_front n f (e ∷ entries) more agree = (agree.0, agree_front n f entries more agree.1)
+
+all_agree_front : (n : ℕ) (entries more : List Entry) (fs : List FlushMsg) → AllAgree n (entries ++ more) fs → AllAgree n entries fs
+all_agree_front n entries more [] all = tt
+all_agree_front n entries more (f ∷ fs) all = (agree_front n f entries more all.0, all_agree_front n entries more fs all.1)
+
+pub all_agree_take : (n k : ℕ) (entries : List Entry) (fs : List FlushMsg) → AllAgree n entries fs → AllAgree n (take k entries) fs
+all_agree_take n k entries fs all = all_agree_front n (take k entries) (drop k entries) fs (subst (λ (l : List Entry). AllAgree n l fs) (sym (take-append-drop k entries)) all)
+
+pub all_agree_filter : (n : ℕ) (entries : List Entry) (p : FlushMsg → Bool) (fs : List FlushMsg) → AllAgree n entries fs → AllAgree n entries (filter p fs)
+all_agree_filter n entries p [] all = tt
+all_agree_filter n entries p (f ∷ fs) all = by_test (p f) (all_agree_filter n entries p fs all.1)
+  where
+    by_test : (b : Bool) → AllAgree n entries (filter p fs) → AllAgree n entries (cond b (f ∷ filter p fs) (filter p fs))
+    by_test true rest = (all.0, rest)
+    by_test false rest = rest
+
+pub all_agree_end : (n : ℕ) (entries : List Entry) (fs : List FlushMsg) (f : FlushMsg) → AgreeAt n f entries → AllAgree n entries fs → AllAgree n entries (fs ++ f ∷ [])
+all_agree_end n entries [] f agree all = (agree, tt)
+all_agree_end n entries (x ∷ fs) f agree all = (all.0, all_agree_end n entries fs f agree all.1)
+
+-- a flush with a number above all entries
+new_agrees : (n last high : ℕ) (f : FlushMsg) (entries : List Entry) → Counted n last entries → last_from n last entries ≤ high → high < f.number → AgreeAt n f entries
+new_agrees n last high f [] counted most above_it = tt
+new_agrees n last high f (e ∷ entries) counted most above_it = (one, new_agrees n (next_flush n last e) high f entries counted.1 most above_it)
+  where
+    one : is_flush_of n e ≡ true → e.number ≡ f.number → e.what ≡ flush_entry f
+    one is same =
+        let here : next_flush n last e ≡ e.number = ap (λ (b : Bool). cond b e.number last) is in
+        let less = counted_last n (next_flush n last e) entries counted.1 in
+        absurd (omega (arith, here, less, most, above_it, same))
+
+pub newest_agrees : (n high : ℕ) (f : FlushMsg) (entries : List Entry) → Counted n 0 entries → last_flush entries n ≤ high → f.number ≡ high + 1 → AgreeAt n f entries
+newest_agrees n high f entries counted most is = new_agrees n 0 high f entries counted most (omega (arith, is))
+
+abbrev first_or : FlushMsg → List FlushMsg → FlushMsg
+first_or f [] = f
+first_or f (g ∷ fs) = g
+
+-- the first flush behind a number is the one of the next number
+none_says : (low k high : ℕ) (e : Entry) (fs : List FlushMsg) → e.number ≡ low + 1 → low + 1 ≤ k → Follow k high (above low fs) → SaysAll e fs
+none_says low k high e [] is less follow = tt
+none_says low k high e (f ∷ fs) is less follow = by_test (nat_lt low f.number) refl follow (λ next more rest. none_says low next high e fs is more rest)
+  where
+    by_test : (b : Bool) → nat_lt low f.number ≡ b → Follow k high (cond b (f ∷ above low fs) (above low fs)) → ((next : ℕ) → low + 1 ≤ next → Follow next high (above low fs) → SaysAll e fs) → SaysAll e (f ∷ fs)
+    by_test true test follow go = (λ same. absurd (let at = follow.0 in omega (arith, at, is, same, less)), go (k + 1) (omega (arith, less)) follow.1)
+    by_test false test follow go = (λ same. absurd (grind (arith, nat_tests, test, is, same)), go k less follow)
+
+pub first_says : (low high : ℕ) (f : FlushMsg) (rest : List FlushMsg) (e : Entry) (fs : List FlushMsg) → e.number ≡ f.number → e.what ≡ flush_entry f → f ∷ rest ≡ above low fs → Follow low high (f ∷ rest) → SaysAll e fs
+first_says low high f rest e [] number what same follow = tt
+first_says low high f rest e (g ∷ fs) number what same follow = by_test (nat_lt low g.number) refl same (λ more. first_says low high f rest e fs number what more follow)
+  where
+    next : e.number ≡ low + 1
+    next = number ∙ follow.0
+
+    head : f ∷ rest ≡ g ∷ above low fs → f ≡ g
+    head is = ap (λ (l : List FlushMsg). first_or f l) is
+
+    tail : f ∷ rest ≡ g ∷ above low fs → rest ≡ above low fs
+    tail is = ap (drop 1) is
+
+    by_test : (b : Bool) → nat_lt low g.number ≡ b → f ∷ rest ≡ cond b (g ∷ above low fs) (above low fs) → (f ∷ rest ≡ above low fs → SaysAll e fs) → SaysAll e (g ∷ fs)
+    by_test true test is go = (λ _. what ∙ ap flush_entry (head is), none_says low (low + 1) high e fs next (omega arith) (subst (Follow (low + 1) high) (tail is) follow.1))
+    by_test false test is go = (λ at. absurd (grind (arith, nat_tests, test, next, at)), go is)

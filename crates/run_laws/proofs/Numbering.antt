@@ -25,20 +25,15 @@ use Rattle.step_table.specs.Acts.{Act, TellRecall, TellAck, TellRestart, AnswerI
 use Rattle.step_table.specs.Capabilities.{clash}
 use Rattle.step_table.specs.Flushes.{flush_entry, flush_settles, take_flush, on_flush, claimed, take_claim, take_brought, come_back}
 use Rattle.step_table.specs.World.{to_clients, told_to}
-use Rattle.run_laws.specs.FlushNumbers.{is_flush_of, Counted, above, Follow}
+use Rattle.run_laws.specs.FlushNumbers.{is_flush_of, Counted, above, Follow, Bound, AllBound, AllAgree}
 use Rattle.run_laws.specs.Links.{mine}
 use Rattle.run_laws.specs.Stamps.{told_by}
 use Rattle.run_laws.proofs.Acts.{notices_keep}
-use Rattle.run_laws.proofs.Counted.{counted_append, last_take, last_longer, last_quiet, last_new, follow_most, follow_above, above_above, above_next, above_all}
+use Rattle.run_laws.proofs.Counted.{counted_append, last_take, last_longer, last_quiet, last_new, follow_most, follow_above, above_above, above_next, above_all, SaysAll, all_agree_entry, first_says}
 use Rattle.run_laws.proofs.Holds.{AckedBy}
 use Rattle.run_laws.proofs.Ruled.{IsRuled, IsFlushing}
 
--- what a message acknowledges, the entries say
-abbrev pub Bound : ℕ → List Entry → ToClient → Type 0
-Bound n entries (FlushAck conn stamp number) = number ≤ last_flush entries n
-Bound n entries (Welcome conn stamp flushed update) = flushed ≤ last_flush entries n
-Bound n entries m = Unit {0}
-
+-- what is acknowledged is in the entries
 pub bound_by : (n : ℕ) (entries : List Entry) (m : ToClient) (i : ℕ) → Bound n entries m → AckedBy m i → i ≤ last_flush entries n
 bound_by n entries (FlushAck conn stamp number) i bound by = omega (arith, bound, by)
 bound_by n entries (Welcome conn stamp flushed update) i bound by = omega (arith, bound, by)
@@ -48,10 +43,6 @@ bound_more : (n : ℕ) (few many : List Entry) (m : ToClient) → last_flush few
 bound_more n few many (FlushAck conn stamp number) less bound = omega (arith, less, bound)
 bound_more n few many (Welcome conn stamp flushed update) less bound = omega (arith, less, bound)
 bound_more n few many m less bound = tt
-
-abbrev pub AllBound : ℕ → List Entry → List ToClient → Type 0
-AllBound n entries [] = Unit {0}
-AllBound n entries (m ∷ down) = Bound n entries m × AllBound n entries down
 
 pub all_bound_more : (n : ℕ) (few many : List Entry) (down : List ToClient) → last_flush few n ≤ last_flush many n → AllBound n few down → AllBound n many down
 all_bound_more n few many [] less all = tt
@@ -110,6 +101,7 @@ pub record Flushing (n high : ℕ) (kept : List FlushMsg) (W : ℕ → Type 0) (
   pub counted : Counted n 0 entries
   pub most : last_flush entries n ≤ high
   pub follow : Follow (last_flush (take durable entries) n) high (above (last_flush (take durable entries) n) kept)
+  pub agree : AllAgree n entries kept
   pub way : W (last_flush entries n)
   pub mail : MailBound n entries post
   pub down : AllBound n (take durable entries) p
@@ -119,7 +111,7 @@ In n high kept W down s = Flushing n high kept W down s.entries s.durable s.mail
 
 -- another word on the last flush
 pub way_as : (n high : ℕ) (kept : List FlushMsg) (W V : ℕ → Type 0) (down : List ToClient) (entries : List Entry) (durable : ℕ) (mail : List (ℕ × Sent)) → ((k : ℕ) → k ≡ last_flush entries n → W k → V k) → Flushing n high kept W down entries durable mail → Flushing n high kept V down entries durable mail
-way_as n high kept W V down entries durable mail go f = record { fits = f.fits; counted = f.counted; most = f.most; follow = f.follow; way = go (last_flush entries n) refl f.way; mail = f.mail; down = f.down }
+way_as n high kept W V down entries durable mail go f = record { fits = f.fits; counted = f.counted; most = f.most; follow = f.follow; agree = f.agree; way = go (last_flush entries n) refl f.way; mail = f.mail; down = f.down }
 
 -- the flushes behind the last one that the server took follow it
 pub follows_last : (n high : ℕ) (kept : List FlushMsg) (W : ℕ → Type 0) (down : List ToClient) (entries : List Entry) (durable : ℕ) (mail : List (ℕ × Sent)) → Flushing n high kept W down entries durable mail → Follow (last_flush entries n) high (above (last_flush entries n) kept)
@@ -127,12 +119,13 @@ follows_last n high kept W down entries durable mail f = follow_above (last_flus
 
 -- an entry more
 entered : (n high : ℕ) (kept : List FlushMsg) (W V : ℕ → Type 0) (down : List ToClient) (entries : List Entry) (durable : ℕ) (mail : List (ℕ × Sent)) (e : Entry)
-    → (is_flush_of n e ≡ true → e.number ≡ last_flush entries n + 1) → last_flush (entries ++ e ∷ []) n ≤ high → V (last_flush (entries ++ e ∷ []) n) → Flushing n high kept W down entries durable mail → Flushing n high kept V down (entries ++ e ∷ []) durable mail
-entered n high kept W V down entries durable mail e next most now f = record {
+    → (is_flush_of n e ≡ true → e.number ≡ last_flush entries n + 1) → (is_flush_of n e ≡ true → SaysAll e kept) → last_flush (entries ++ e ∷ []) n ≤ high → V (last_flush (entries ++ e ∷ []) n) → Flushing n high kept W down entries durable mail → Flushing n high kept V down (entries ++ e ∷ []) durable mail
+entered n high kept W V down entries durable mail e next says most now f = record {
   fits = let fits = f.fits in grind (arith, fits, length-append);
   counted = counted_append n 0 entries (e ∷ []) f.counted (next, tt);
   most = most;
   follow = subst (λ (l : List Entry). Follow (last_flush l n) high (above (last_flush l n) kept)) same f.follow;
+  agree = all_agree_entry n entries e kept says f.agree;
   way = now;
   mail = mail_more n entries e mail f.mail;
   down = subst (λ (l : List Entry). AllBound n l down) same f.down;
@@ -184,7 +177,7 @@ written_quiet (change.Truncate handle size) = tt
 
 -- what is sent
 pub send_in : (n high : ℕ) (kept : List FlushMsg) (W : ℕ → Type 0) (down : List ToClient) (s : Server) (sent : Sent) → ((sent.to == n) ≡ true → BoundBy n s.entries (told_by sent.message)) → In n high kept W down s → In n high kept W down (send s sent)
-send_in n high kept W down s sent bound f = record { fits = f.fits; counted = f.counted; most = f.most; follow = f.follow; way = f.way; mail = mail_end n s.entries s.mail sent bound f.mail; down = f.down }
+send_in n high kept W down s sent bound f = record { fits = f.fits; counted = f.counted; most = f.most; follow = f.follow; agree = f.agree; way = f.way; mail = mail_end n s.entries s.mail sent bound f.mail; down = f.down }
 
 abbrev ToldBound : ℕ → ℕ → List Entry → Told → Type 0
 ToldBound n x entries (Acked number) = (x == n) ≡ true → number ≤ last_flush entries n
@@ -206,14 +199,14 @@ tell_in n high kept W down s x told bound f = by_number (number_of s.current x)
 
 -- what is buffered
 buffer_in : (n high : ℕ) (kept : List FlushMsg) (W V : ℕ → Type 0) (down : List ToClient) (s : Server) (e : Entry)
-    → (is_flush_of n e ≡ true → e.number ≡ last_flush s.entries n + 1) → last_flush (s.entries ++ e ∷ []) n ≤ high → V (last_flush (s.entries ++ e ∷ []) n) → In n high kept W down s → In n high kept V down (buffer s e)
-buffer_in n high kept W V down s e next most now f = notices_keep (In n high kept V down) (λ t x inos so. tell_in n high kept V down t x (Changed inos) tt so) s.entries (up_to s.clients) (record s { entries = s.entries ++ e ∷ [] })
-    (entered n high kept W V down s.entries s.durable s.mail e next most now f)
+    → (is_flush_of n e ≡ true → e.number ≡ last_flush s.entries n + 1) → (is_flush_of n e ≡ true → SaysAll e kept) → last_flush (s.entries ++ e ∷ []) n ≤ high → V (last_flush (s.entries ++ e ∷ []) n) → In n high kept W down s → In n high kept V down (buffer s e)
+buffer_in n high kept W V down s e next says most now f = notices_keep (In n high kept V down) (λ t x inos so. tell_in n high kept V down t x (Changed inos) tt so) s.entries (up_to s.clients) (record s { entries = s.entries ++ e ∷ [] })
+    (entered n high kept W V down s.entries s.durable s.mail e next says most now f)
 
 quiet_in : (n high : ℕ) (kept : List FlushMsg) (W : ℕ → Type 0) (down : List ToClient) (s : Server) (e : Entry) → is_flush_of n e ≡ false → In n high kept W down s → In n high kept W down (buffer s e)
 quiet_in n high kept W down s e is f =
     let same = last_quiet n s.entries e is in
-    buffer_in n high kept W W down s e (λ here. absurd (true≢false (sym here ∙ is))) (subst (λ (k : ℕ). k ≤ high) (sym same) f.most) (subst W (sym same) f.way) f
+    buffer_in n high kept W W down s e (λ here. absurd (true≢false (sym here ∙ is))) (λ here. absurd (true≢false (sym here ∙ is))) (subst (λ (k : ℕ). k ≤ high) (sym same) f.most) (subst W (sym same) f.way) f
 
 pub one_in : (n high : ℕ) (kept : List FlushMsg) (W : ℕ → Type 0) (down : List ToClient) (s : Server) (a : Act) → IsQuiet n a → In n high kept W down s → In n high kept W down (act s a)
 one_in n high kept W down s (TellRecall x ino) fit f = tell_in n high kept W down s x (WantedBack ino) tt f
@@ -266,8 +259,8 @@ settles_in n high kept W down s f now = by_test f.release
     by_test true = now
     by_test false = now
 
-taken_in : (n high : ℕ) (kept : List FlushMsg) (W V : ℕ → Type 0) (down : List ToClient) (s : Server) (f : FlushMsg) → f.number ≡ last_flush s.entries n + 1 → f.number ≤ high → V f.number → In n high kept W down s → In n high kept V down (acts s (Buffer (record { client = n; number = f.number; what = flush_entry f }) ∷ flush_settles n f ∷ []))
-taken_in n high kept W V down s f next most now is = settles_in n high kept V down (buffer s (record { client = n; number = f.number; what = flush_entry f })) f (buffer_in n high kept W V down s (record { client = n; number = f.number; what = flush_entry f }) (λ here. next) (subst (λ (k : ℕ). k ≤ high) (sym same) most) (subst V (sym same) now) is)
+taken_in : (n high : ℕ) (kept : List FlushMsg) (W V : ℕ → Type 0) (down : List ToClient) (s : Server) (f : FlushMsg) → f.number ≡ last_flush s.entries n + 1 → SaysAll (record { client = n; number = f.number; what = flush_entry f }) kept → f.number ≤ high → V f.number → In n high kept W down s → In n high kept V down (acts s (Buffer (record { client = n; number = f.number; what = flush_entry f }) ∷ flush_settles n f ∷ []))
+taken_in n high kept W V down s f next says most now is = settles_in n high kept V down (buffer s (record { client = n; number = f.number; what = flush_entry f })) f (buffer_in n high kept W V down s (record { client = n; number = f.number; what = flush_entry f }) (λ here. next) (λ here. says) (subst (λ (k : ℕ). k ≤ high) (sym same) most) (subst V (sym same) now) is)
   where
     same : last_flush (s.entries ++ record { client = n; number = f.number; what = flush_entry f } ∷ []) n ≡ f.number
     same = last_new n s.entries (record { client = n; number = f.number; what = flush_entry f }) (flush_is n f)
@@ -298,7 +291,7 @@ flush_in n high kept rest W down s f same is = by_test (nat_le f.number (last_fl
     V k = (k ≡ f.number) × (rest ≡ above k kept)
 
     taken : In n high kept V down (acts s (Buffer (record { client = n; number = f.number; what = flush_entry f }) ∷ flush_settles n f ∷ []))
-    taken = taken_in n high kept W V down s f next most (refl, left) is
+    taken = taken_in n high kept W V down s f next (first_says (last_flush s.entries n) high f rest (record { client = n; number = f.number; what = flush_entry f }) kept refl refl same follow) most (refl, left) is
 
     told : (t : Server) → In n high kept V down t → In n high kept (λ k. rest ≡ above k kept) down (tell t n (Acked f.number))
     told t now = way_as n high kept V (λ k. rest ≡ above k kept) down (tell t n (Acked f.number)).entries (tell t n (Acked f.number)).durable (tell t n (Acked f.number)).mail (λ k at v. v.1)
@@ -335,8 +328,8 @@ brought_one n high kept fs down s f is = by_test (nat_le f.number (last_flush s.
     here test = sym (ap (λ (b : Bool). cond b (f ∷ above (last_flush s.entries n) fs) (above (last_flush s.entries n) fs)) test) ∙ is.way
 
     by_test : (b : Bool) → nat_le f.number (last_flush s.entries n) ≡ b → In n high kept (Left kept fs) down (acts s (cond b [] (Buffer (record { client = n; number = f.number; what = flush_entry f }) ∷ flush_settles n f ∷ [])))
-    by_test true test = record { fits = is.fits; counted = is.counted; most = is.most; follow = is.follow; way = skipped (old test); mail = is.mail; down = is.down }
-    by_test false test = taken_in n high kept (Left kept (f ∷ fs)) (Left kept fs) down s f next most left is
+    by_test true test = record { fits = is.fits; counted = is.counted; most = is.most; follow = is.follow; agree = is.agree; way = skipped (old test); mail = is.mail; down = is.down }
+    by_test false test = taken_in n high kept (Left kept (f ∷ fs)) (Left kept fs) down s f next (first_says (last_flush s.entries n) high f (above (last_flush s.entries n) fs) (record { client = n; number = f.number; what = flush_entry f }) kept refl refl same follow) most left is
       where
         same : f ∷ above (last_flush s.entries n) fs ≡ above (last_flush s.entries n) kept
         same = here (new test)

@@ -31,9 +31,9 @@ use Rattle.step_table.specs.ClientTakes.{on_told, on_stored}
 use Rattle.step_table.specs.World.{to_clients, start, after, lines_of, to_server as for_server}
 use Rattle.run_laws.specs.Moments.{steps_of, world_after}
 use Rattle.run_laws.specs.Links.{View, EachClient, mine, mail_of, offer, Same}
-use Rattle.run_laws.specs.FlushNumbers.{above, Follow, flushes_of, NoGap, Kept, OnTheWay, ComesNext, IsTaken}
+use Rattle.run_laws.specs.FlushNumbers.{above, Follow, flushes_of, NoGap, Kept, AsSent, OnTheWay, ComesNext, IsTaken, AllBound, Acknowledged}
 use Rattle.run_laws.proofs.Acts.{Fit, KeptByActs, acts_keep, row_keeps, take_flush, take_drop, take_purged, take_deleted, turn_keeps, commit_keeps, restart_keeps}
-use Rattle.run_laws.proofs.Counted.{counted_take, last_take, last_longer, follow_above, follow_end, above_end, above_acked, of_append, of_none, of_behind}
+use Rattle.run_laws.proofs.Counted.{counted_take, last_take, last_longer, follow_above, follow_end, above_end, above_acked, of_append, of_none, of_behind, all_agree_take, all_agree_filter, all_agree_end, newest_agrees}
 use Rattle.run_laws.proofs.Growing.{room, take_take}
 use Rattle.run_laws.proofs.Holds.{Stays, Sends, Takes, op_stays, flush_sends, told_takes, stored_stays}
 use Rattle.run_laws.proofs.Known.{Known, known_more, from_front, known_made}
@@ -41,7 +41,7 @@ use Rattle.run_laws.proofs.Knowing.{Knows, KnownFits, ruled_known, flushing_know
 use Rattle.run_laws.proofs.Link.{flowing}
 use Rattle.run_laws.proofs.Linked.{OpenLinked, linked, if_row, at_start, first_link, each_part}
 use Rattle.run_laws.proofs.Moves.{act_keeps}
-use Rattle.run_laws.proofs.Numbering.{bound_by, AllBound, all_bound_more, all_bound_append, mail_waits, gone_bound, In, follows_last, send_in, one_in, flush_in, back_in, acts_append, IsQuiet, ruled_quiet, flushing_quiet}
+use Rattle.run_laws.proofs.Numbering.{bound_by, all_bound_more, all_bound_append, mail_waits, gone_bound, In, follows_last, send_in, one_in, flush_in, back_in, acts_append, IsQuiet, ruled_quiet, flushing_quiet}
 use Rattle.run_laws.proofs.Ruled.{IsRuled, AllRuled, IsFlushing, ruled_drop, ruled_reported, ruled_restarts, ruled_turn, flushing_flush, flushing_back}
 use Rattle.run_laws.proofs.Views.{Client's, Server's, KeptByRows, run_keeps}
 use Rattle.run_laws.proofs.ViewActs.{all_fit, rows_of_acts}
@@ -89,6 +89,7 @@ hands n c up down s f = record {
   counted = f.counted;
   most = f.most;
   follow = f.follow;
+  agree = f.agree;
   way = f.way;
   mail = mail_waits n s.entries s.durable s.mail f.mail;
   down = all_bound_append n (take s.durable s.entries) down (mine n (to_clients (goes s.durable s.mail))) f.down (gone_bound n s.entries s.durable f.fits f.counted s.mail f.mail);
@@ -147,11 +148,11 @@ own_flush n c conn f up down s fits known knows is = rw fits (by_current (is_num
 
     by_current : (b : Bool) → is_number conn (number_of s.current n) ≡ b → Server's Flushes n c up down (cond (b && knows_file s f.ino) (row_of s (flush_rule n s f)) (drops s))
     by_current true test = rw made (taken (first_of (number_of s.current n) conn f up c.unacked (last_flush s.entries n) test is.way))
-    by_current false test = hands n c up down s (record { fits = is.fits; counted = is.counted; most = is.most; follow = is.follow; way = popped (number_of s.current n) conn f up c.unacked (last_flush s.entries n) test is.way; mail = is.mail; down = is.down })
+    by_current false test = hands n c up down s (record { fits = is.fits; counted = is.counted; most = is.most; follow = is.follow; agree = is.agree; way = popped (number_of s.current n) conn f up c.unacked (last_flush s.entries n) test is.way; mail = is.mail; down = is.down })
 
 -- The server takes another message.
 same_way : (n : ℕ) (c : Client) (m : ToServer) (up : List ToServer) (down : List ToClient) (s : Server) → ((k : ℕ) → flushes_of k (m ∷ up) ≡ flushes_of k up) → Flushes n c (m ∷ up) down s → Flushes n c up down s
-same_way n c m up down s same is = record { fits = is.fits; counted = is.counted; most = is.most; follow = is.follow; way = by_number (number_of s.current n) is.way; mail = is.mail; down = is.down }
+same_way n c m up down s same is = record { fits = is.fits; counted = is.counted; most = is.most; follow = is.follow; agree = is.agree; way = by_number (number_of s.current n) is.way; mail = is.mail; down = is.down }
   where
     by_number : (o : Option ℕ) → Way o (m ∷ up) c.unacked (last_flush s.entries n) → Way o up c.unacked (last_flush s.entries n)
     by_number None way = tt
@@ -159,7 +160,7 @@ same_way n c m up down s same is = record { fits = is.fits; counted = is.counted
 
 welcomed : (n : ℕ) (c : Client) (conn : ℕ) (up : List ToServer) (down : List ToClient) (t : Server) (W : ℕ → Type 0) → (W (last_flush t.entries n) → flushes_of conn up ≡ above (last_flush t.entries n) c.unacked) → In n c.flushes c.unacked W down t → Flushes n c up down (welcome (connected t n conn) n conn)
 welcomed n c conn up down t W go is = subst (λ (o : Option ℕ). In n c.flushes c.unacked (Way o up c.unacked) down (welcome (connected t n conn) n conn)) (sym itself)
-    (send_in n c.flushes c.unacked (Way (Some conn) up c.unacked) down (connected t n conn) _ (λ to. omega arith) (record { fits = is.fits; counted = is.counted; most = is.most; follow = is.follow; way = go is.way; mail = is.mail; down = is.down }))
+    (send_in n c.flushes c.unacked (Way (Some conn) up c.unacked) down (connected t n conn) _ (λ to. omega arith) (record { fits = is.fits; counted = is.counted; most = is.most; follow = is.follow; agree = is.agree; way = go is.way; mail = is.mail; down = is.down }))
   where
     itself : number_of ((n, conn) ∷ t.current) n ≡ Some conn
     itself = by_test (n == n) (grind (arith, nat_tests))
@@ -170,7 +171,7 @@ welcomed n c conn up down t W go is = subst (λ (o : Option ℕ). In n c.flushes
 
 welcomed_other : (n x : ℕ) (c : Client) (conn : ℕ) (up : List ToServer) (down : List ToClient) (t : Server) → (x == n) ≡ false → Flushes n c up down t → Flushes n c up down (welcome (connected t x conn) x conn)
 welcomed_other n x c conn up down t other is = subst (λ (o : Option ℕ). In n c.flushes c.unacked (Way o up c.unacked) down (welcome (connected t x conn) x conn)) (sym (ap (λ (b : Bool). cond b (Some conn) (number_of t.current n)) other))
-    (send_in n c.flushes c.unacked (Way (number_of t.current n) up c.unacked) down (connected t x conn) _ (λ to. absurd (true≢false (sym to ∙ other))) (record { fits = is.fits; counted = is.counted; most = is.most; follow = is.follow; way = is.way; mail = is.mail; down = is.down }))
+    (send_in n c.flushes c.unacked (Way (number_of t.current n) up c.unacked) down (connected t x conn) _ (λ to. absurd (true≢false (sym to ∙ other))) (record { fits = is.fits; counted = is.counted; most = is.most; follow = is.follow; agree = is.agree; way = is.way; mail = is.mail; down = is.down }))
 
 own_connect : (n : ℕ) (c : Client) (conn : ℕ) (said : List Claim) (flushes : List FlushMsg) (asked : Option (ℕ × Request)) (up : List ToServer) (down : List ToClient) (s : Server) → OpenLinked n c (Connect conn said flushes asked ∷ up) down s → Knows s → Flushes n c (Connect conn said flushes asked ∷ up) down s → Server's Flushes n c up down (on_take s n (Connect conn said flushes asked))
 own_connect n c conn said flushes asked up down s link knows is =
@@ -207,6 +208,7 @@ durable n c up down s is = record {
   counted = is.counted;
   most = is.most;
   follow = subst (λ (l : List Entry). Follow (last_flush l n) c.flushes (above (last_flush l n) c.unacked)) (sym (take-length s.entries)) (follows_last n c.flushes c.unacked (Way (number_of s.current n) up c.unacked) down s.entries s.durable s.mail is);
+  agree = is.agree;
   way = is.way;
   mail = is.mail;
   down = subst (λ (l : List Entry). AllBound n l down) (sym (take-length s.entries)) (all_bound_more n (take s.durable s.entries) s.entries down (last_take n s.durable s.entries is.counted) is.down);
@@ -219,6 +221,7 @@ survives n c up down s k fits is = record {
   most = let most = is.most in omega (arith, less, most);
   follow = subst (λ (l : List Entry). Follow (last_flush l n) c.flushes (above (last_flush l n) c.unacked)) (sym same)
       (follow_above (last_flush (take s.durable s.entries) n) (last_flush (take (s.durable + k) s.entries) n) c.flushes c.unacked low (let most = is.most in omega (arith, less, most)) is.follow);
+  agree = all_agree_take n (s.durable + k) s.entries c.unacked is.agree;
   way = tt;
   mail = tt;
   down = subst (λ (l : List Entry). AllBound n l down) (sym same) (all_bound_more n (take s.durable s.entries) (take (s.durable + k) s.entries) down low is.down);
@@ -242,7 +245,7 @@ turn_fit n s k = by_turn (turn s) (ruled_turn s k.deferred)
 
 -- The client.
 stays_row : (n : ℕ) (c : Client) (up : List ToServer) (down more : List ToClient) (s : Server) (r : Row Client) → AllBound n (take s.durable s.entries) more → Stays (take s.durable s.entries) c r → Flushes n c up down s → Client's Flushes n up more s r
-stays_row n c up down more s r bound stays is = rw (stays.unacked, stays.flushes) (record { fits = is.fits; counted = is.counted; most = is.most; follow = is.follow; way = by_number (number_of s.current n) is.way; mail = is.mail; down = bound })
+stays_row n c up down more s r bound stays is = rw (stays.unacked, stays.flushes) (record { fits = is.fits; counted = is.counted; most = is.most; follow = is.follow; agree = is.agree; way = by_number (number_of s.current n) is.way; mail = is.mail; down = bound })
   where
     by_number : (o : Option ℕ) → Way o up c.unacked (last_flush s.entries n) → Way o (up ++ for_server r.sent) c.unacked (last_flush s.entries n)
     by_number None way = tt
@@ -255,6 +258,7 @@ sends_row n c up down s r same (inr sent) is = rw (sent.unacked, sent.flushes, s
   counted = is.counted;
   most = let most = is.most in omega (arith, most);
   follow = subst (Follow (last_flush (take s.durable s.entries) n) (c.flushes + 1)) (sym (above_end (last_flush (take s.durable s.entries) n) c.flushes c.unacked sent.flush low sent.number)) (follow_end (last_flush (take s.durable s.entries) n) c.flushes (above (last_flush (take s.durable s.entries) n) c.unacked) sent.flush sent.number is.follow);
+  agree = all_agree_end n s.entries c.unacked sent.flush (newest_agrees n c.flushes sent.flush s.entries is.counted is.most sent.number) is.agree;
   way = by_number (number_of s.current n) same is.way;
   mail = is.mail;
   down = is.down;
@@ -279,6 +283,7 @@ takes_row n c up m down s r (inr settles) is = rw (settles.unacked, settles.flus
   counted = is.counted;
   most = is.most;
   follow = subst (Follow (last_flush (take s.durable s.entries) n) c.flushes) (sym (above_acked (last_flush (take s.durable s.entries) n) settles.which c.unacked few)) is.follow;
+  agree = all_agree_filter n s.entries (λ (f : FlushMsg). not (settles.which f.number)) c.unacked is.agree;
   way = by_number (number_of s.current n) is.way;
   mail = is.mail;
   down = is.down.1;
@@ -364,7 +369,7 @@ pub all_hold : (script : Script) (steps : List Step) → EachClient All (after (
 all_hold script steps = run_keeps All (joined (joined (rows_of_acts OpenLinked linked (all_fit OpenLinked)) (alone knowing)) flushes) (start script) steps
     (at_start All script (λ n is. (
       ((tt, first_link (new_client n (script.clients + 1) (lines_of n script.lines)) _ refl is), first_knowing n (script.clients + 1) (lines_of n script.lines) script),
-      record { fits = omega arith; counted = tt; most = omega arith; follow = refl; way = rw is refl; mail = tt; down = tt },
+      record { fits = omega arith; counted = tt; most = omega arith; follow = refl; agree = tt; way = rw is refl; mail = tt; down = tt },
     )))
 
 -- the laws
@@ -373,6 +378,12 @@ gaps_law script history = each_part All NoGap (world_after script history) (λ n
 
 pub kept_law : (script : Script) (history : List Event) → EachClient Kept (world_after script history)
 kept_law script history = each_part All Kept (world_after script history) (λ n c up down s all. all.1.follow) (all_hold script (steps_of history))
+
+pub acknowledged_law : (script : Script) (history : List Event) → EachClient Acknowledged (world_after script history)
+acknowledged_law script history = each_part All Acknowledged (world_after script history) (λ n c up down s all. all.1.down) (all_hold script (steps_of history))
+
+pub sent_law : (script : Script) (history : List Event) → EachClient AsSent (world_after script history)
+sent_law script history = each_part All AsSent (world_after script history) (λ n c up down s all. all.1.agree) (all_hold script (steps_of history))
 
 pub way_law : (script : Script) (history : List Event) → EachClient OnTheWay (world_after script history)
 way_law script history = each_part All OnTheWay (world_after script history) (λ n c up down s all. all.1.way) (all_hold script (steps_of history))

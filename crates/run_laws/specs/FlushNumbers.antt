@@ -2,12 +2,14 @@
 use Rattle.std.specs.Prelude.{◌≡◌, ◌≤◌, ℕ, ◌+◌, Bool, true, ◌&&◌, ◌==◌, nat_lt, List, [], ◌∷◌, filter, take, if◌then◌else◌, IfSome}
 use Rattle.plain_types.specs.declared.entry.Entry.{Entry}
 use Rattle.plain_types.specs.declared.message.FlushMsg.{FlushMsg}
+use Rattle.plain_types.specs.declared.message.ToClient.{ToClient}
+use Rattle.plain_types.specs.declared.message.ToClient.TheVariants.{FlushAck, Welcome}
 use Rattle.plain_types.specs.declared.message.ToServer.{ToServer}
 use Rattle.plain_types.specs.declared.message.ToServer.TheVariants.{Flush}
 use Rattle.plain_journal.specs.Table.{is_flush, last_flush}
 use Rattle.step_table.specs.Messages.{to_server_fits}
 use Rattle.step_table.specs.ServerState.{number_of, is_current}
-use Rattle.step_table.specs.Flushes.{knows_file}
+use Rattle.step_table.specs.Flushes.{knows_file, flush_entry}
 use Rattle.run_laws.specs.Links.{View}
 
 -- an entry that is a flush of a client
@@ -41,6 +43,33 @@ Follow low high (f ∷ flushes) = (f.number ≡ low + 1) × Follow (low + 1) hig
 abbrev pub Kept : View
 Kept n c up down s =
     let last = last_flush (take s.durable s.entries) n in Follow last c.flushes (above last c.unacked)
+
+-- what a message acknowledges, these entries have
+abbrev pub Bound : ℕ → List Entry → ToClient → Type 0
+Bound n entries (FlushAck conn stamp number) = number ≤ last_flush entries n
+Bound n entries (Welcome conn stamp flushed update) = flushed ≤ last_flush entries n
+Bound n entries m = Unit {0}
+
+abbrev pub AllBound : ℕ → List Entry → List ToClient → Type 0
+AllBound n entries [] = Unit {0}
+AllBound n entries (m ∷ down) = Bound n entries m × AllBound n entries down
+
+-- What is acknowledged on the way to the client is durable.
+abbrev pub Acknowledged : View
+Acknowledged n c up down s = AllBound n (take s.durable s.entries) down
+
+-- entries of this flush's number, of its client, say what it says
+abbrev pub AgreeAt : ℕ → FlushMsg → List Entry → Type 0
+AgreeAt n f [] = Unit {0}
+AgreeAt n f (e ∷ entries) = (is_flush_of n e ≡ true → e.number ≡ f.number → e.what ≡ flush_entry f) × AgreeAt n f entries
+
+abbrev pub AllAgree : ℕ → List Entry → List FlushMsg → Type 0
+AllAgree n entries [] = Unit {0}
+AllAgree n entries (f ∷ flushes) = AgreeAt n f entries × AllAgree n entries flushes
+
+-- Where the journal has a flush that the client keeps, it has it as it was sent.
+abbrev pub AsSent : View
+AsSent n c up down s = AllAgree n s.entries c.unacked
 
 -- the flushes of a connection on their way to the server
 abbrev pub flush_at : ℕ → ToServer → List FlushMsg → List FlushMsg

@@ -5,7 +5,7 @@ ghost use Rattle.plain_types.specs.declared.script.Script.{Script};
 ghost use Rattle.step_table.specs.Legal.{Legal};
 ghost use Rattle.run_laws.specs.Moments.{world_after};
 ghost use Rattle.run_laws.specs.Links.{EachClient};
-ghost use Rattle.run_laws.specs.FlushNumbers.{NoGap, Kept, OnTheWay, ComesNext, IsTaken};
+ghost use Rattle.run_laws.specs.FlushNumbers.{NoGap, Kept, Acknowledged, AsSent, OnTheWay, ComesNext, IsTaken};
 
 /// In the journal the flushes of each client are numbered 1, 2, .. without a gap, none twice, up to a number that the client
 /// has given.
@@ -14,9 +14,15 @@ pub fn flush_numbers_have_no_gap()
 {}
 
 /// What a client keeps no more is durable: all flushes behind the last durable one are among those that it keeps, one by one
-/// up to the last that it sent.
+/// up to the last that it sent. And what is acknowledged on the way to a client is durable.
 pub fn what_is_acknowledged_is_durable()
-    ensures { (script : Script) (history : List Event) → Legal history script → EachClient Kept (world_after script history) }
+    ensures kept { (script : Script) (history : List Event) → Legal history script → EachClient Kept (world_after script history) }
+    ensures acknowledged { (script : Script) (history : List Event) → Legal history script → EachClient Acknowledged (world_after script history) }
+{}
+
+/// A flush is written as it was sent: where the journal has a flush that the client keeps, it has it with its fields.
+pub fn a_flush_is_written_as_it_was_sent()
+    ensures { (script : Script) (history : List Event) → Legal history script → EachClient AsSent (world_after script history) }
 {}
 
 /// Where a client is connected, the flushes of that connection that are on their way are those that the client keeps behind

@@ -12,8 +12,8 @@ mod steps;
 mod tables;
 
 pub use flushes::{
-    a_flush_comes_once_a_connection, flush_numbers_have_no_gap, no_flush_is_refused,
-    what_is_acknowledged_is_durable,
+    a_flush_comes_once_a_connection, a_flush_is_written_as_it_was_sent, flush_numbers_have_no_gap,
+    no_flush_is_refused, what_is_acknowledged_is_durable,
 };
 pub use journal::the_journal_only_grows;
 pub use links::{connection_numbers_never_fall, links_are_in_order};
