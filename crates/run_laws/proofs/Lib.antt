@@ -35,3 +35,5 @@ mod Knowing
 mod Counted
 mod Numbering
 mod Taking
+mod Turns
+mod Turning

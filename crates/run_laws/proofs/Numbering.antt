@@ -270,7 +270,7 @@ acts_append [] ys s = refl
 acts_append (a ∷ xs) ys s = acts_append xs ys (act s a)
 
 -- it comes by itself, and is acknowledged
-pub flush_in : (n high : ℕ) (kept rest : List FlushMsg) (W : ℕ → Type 0) (down : List ToClient) (s : Server) (f : FlushMsg) → f ∷ rest ≡ above (last_flush s.entries n) kept → In n high kept W down s → In n high kept (λ k. rest ≡ above k kept) down (acts s (on_flush n s f))
+pub flush_in : (n high : ℕ) (kept rest : List FlushMsg) (W : ℕ → Type 0) (down : List ToClient) (s : Server) (f : FlushMsg) → f ∷ rest ≡ above (last_flush s.entries n) kept → In n high kept W down s → In n high kept (λ k. (k ≡ f.number) × (rest ≡ above k kept)) down (acts s (on_flush n s f))
 flush_in n high kept rest W down s f same is = by_test (nat_le f.number (last_flush s.entries n)) refl
   where
     follow : Follow (last_flush s.entries n) high (f ∷ rest)
@@ -293,11 +293,10 @@ flush_in n high kept rest W down s f same is = by_test (nat_le f.number (last_fl
     taken : In n high kept V down (acts s (Buffer (record { client = n; number = f.number; what = flush_entry f }) ∷ flush_settles n f ∷ []))
     taken = taken_in n high kept W V down s f next (first_says (last_flush s.entries n) high f rest (record { client = n; number = f.number; what = flush_entry f }) kept refl refl same follow) most (refl, left) is
 
-    told : (t : Server) → In n high kept V down t → In n high kept (λ k. rest ≡ above k kept) down (tell t n (Acked f.number))
-    told t now = way_as n high kept V (λ k. rest ≡ above k kept) down (tell t n (Acked f.number)).entries (tell t n (Acked f.number)).durable (tell t n (Acked f.number)).mail (λ k at v. v.1)
-        (tell_in n high kept V down t n (Acked f.number) (λ to. let e = now.way.0 in omega (arith, e)) now)
+    told : (t : Server) → In n high kept V down t → In n high kept V down (tell t n (Acked f.number))
+    told t now = tell_in n high kept V down t n (Acked f.number) (λ to. let e = now.way.0 in omega (arith, e)) now
 
-    by_test : (b : Bool) → nat_le f.number (last_flush s.entries n) ≡ b → In n high kept (λ k. rest ≡ above k kept) down (acts s (cond b [] (Buffer (record { client = n; number = f.number; what = flush_entry f }) ∷ flush_settles n f ∷ []) ++ TellAck n f.number ∷ []))
+    by_test : (b : Bool) → nat_le f.number (last_flush s.entries n) ≡ b → In n high kept V down (acts s (cond b [] (Buffer (record { client = n; number = f.number; what = flush_entry f }) ∷ flush_settles n f ∷ []) ++ TellAck n f.number ∷ []))
     by_test true test = absurd (let is = next in grind (arith, nat_tests, test, is))
     by_test false test = told (acts s (Buffer (record { client = n; number = f.number; what = flush_entry f }) ∷ flush_settles n f ∷ [])) taken
 

@@ -41,7 +41,7 @@ use Rattle.run_laws.proofs.Knowing.{Knows, KnownFits, ruled_known, flushing_know
 use Rattle.run_laws.proofs.Link.{flowing}
 use Rattle.run_laws.proofs.Linked.{OpenLinked, linked, if_row, at_start, first_link, each_part}
 use Rattle.run_laws.proofs.Moves.{act_keeps}
-use Rattle.run_laws.proofs.Numbering.{bound_by, all_bound_more, all_bound_append, mail_waits, gone_bound, In, follows_last, send_in, one_in, flush_in, back_in, acts_append, IsQuiet, ruled_quiet, flushing_quiet}
+use Rattle.run_laws.proofs.Numbering.{bound_by, way_as, all_bound_more, all_bound_append, mail_waits, gone_bound, In, follows_last, send_in, one_in, flush_in, back_in, acts_append, IsQuiet, ruled_quiet, flushing_quiet}
 use Rattle.run_laws.proofs.Ruled.{IsRuled, AllRuled, IsFlushing, ruled_drop, ruled_reported, ruled_restarts, ruled_turn, flushing_flush, flushing_back}
 use Rattle.run_laws.proofs.Views.{Client's, Server's, KeptByRows, run_keeps}
 use Rattle.run_laws.proofs.ViewActs.{all_fit, rows_of_acts}
@@ -54,7 +54,7 @@ abbrev pub Flushes : View
 Flushes n c up down s = In n c.flushes c.unacked (Way (number_of s.current n) up c.unacked) down s
 
 -- acts leave connection numbers
-current_same : (s : Server) (a : Act) → (act s a).current ≡ s.current
+pub current_same : (s : Server) (a : Act) → (act s a).current ≡ s.current
 current_same s a = act_keeps {P = λ entries durable mail current. current ≡ s.current} (record {
   tells = λ t x told so. told_current t x told (number_of t.current x) so;
   restarts = λ t x so. so;
@@ -66,24 +66,24 @@ current_same s a = act_keeps {P = λ entries durable mail current. current ≡ s
     told_current t x told None so = so
     told_current t x told (Some conn) so = so
 
-current_all : (list : List Act) (s : Server) → (acts s list).current ≡ s.current
+pub current_all : (list : List Act) (s : Server) → (acts s list).current ≡ s.current
 current_all [] s = refl
 current_all (a ∷ list) s = current_all list (act s a) ∙ current_same s a
 
-with_current : (n : ℕ) (c : Client) (up : List ToServer) (down : List ToClient) (s t : Server) → t.current ≡ s.current → In n c.flushes c.unacked (Way (number_of s.current n) up c.unacked) down t → Flushes n c up down t
+pub with_current : (n : ℕ) (c : Client) (up : List ToServer) (down : List ToClient) (s t : Server) → t.current ≡ s.current → In n c.flushes c.unacked (Way (number_of s.current n) up c.unacked) down t → Flushes n c up down t
 with_current n c up down s t same is = subst (λ (current : List (ℕ × ℕ)). In n c.flushes c.unacked (Way (number_of current n) up c.unacked) down t) (sym same) is
 
 -- An act fits that grants and finds known files, and is quiet.
-abbrev Fits : ℕ → Server → Act → Type 0
+abbrev pub Fits : ℕ → Server → Act → Type 0
 Fits n s a = KnownFits s a × IsQuiet n a
 
-ruled : (n : ℕ) (s : Server) (a : Act) → IsRuled s.entries a → Fits n s a
+pub ruled : (n : ℕ) (s : Server) (a : Act) → IsRuled s.entries a → Fits n s a
 ruled n s a is = (ruled_known s a is, ruled_quiet n s.entries a is)
 
-flushed : (n x : ℕ) → (x == n) ≡ false → (s : Server) (a : Act) → IsFlushing x a → Fits n s a
+pub flushed : (n x : ℕ) → (x == n) ≡ false → (s : Server) (a : Act) → IsFlushing x a → Fits n s a
 flushed n x other s a is = (flushing_known x s a is, flushing_quiet n x a other is)
 
-hands : (n : ℕ) (c : Client) (up : List ToServer) (down : List ToClient) (s : Server) → Flushes n c up down s → Server's Flushes n c up down (hand_out s)
+pub hands : (n : ℕ) (c : Client) (up : List ToServer) (down : List ToClient) (s : Server) → Flushes n c up down s → Server's Flushes n c up down (hand_out s)
 hands n c up down s f = record {
   fits = f.fits;
   counted = f.counted;
@@ -95,7 +95,7 @@ hands n c up down s f = record {
   down = all_bound_append n (take s.durable s.entries) down (mine n (to_clients (goes s.durable s.mail))) f.down (gone_bound n s.entries s.durable f.fits f.counted s.mail f.mail);
 }
 
-by_acts : (n : ℕ) (c : Client) (up : List ToServer) (down : List ToClient) → KeptByActs (Fits n) (λ s. Knows s × Flushes n c up down s) (Server's Flushes n c up down)
+pub by_acts : (n : ℕ) (c : Client) (up : List ToServer) (down : List ToClient) → KeptByActs (Fits n) (λ s. Knows s × Flushes n c up down s) (Server's Flushes n c up down)
 by_acts n c up down = record {
   one = λ s a fit k. (one_knows s a fit.0 k.0, with_current n c up down s (act s a) (current_same s a) (one_in n c.flushes c.unacked (Way (number_of s.current n) up c.unacked) down s a fit.1 k.1));
   hands = λ s k. hands n c up down s k.1;
@@ -103,7 +103,7 @@ by_acts n c up down = record {
 }
 
 -- The server takes a flush of the client itself.
-abbrev is_number : ℕ → Option ℕ → Bool
+abbrev pub is_number : ℕ → Option ℕ → Bool
 is_number conn o = elim o as (λ _. Bool) [ None ↦ false | Some number ↦ number == conn ]
 
 popped : (o : Option ℕ) (conn : ℕ) (f : FlushMsg) (up : List ToServer) (kept : List FlushMsg) (last : ℕ) → is_number conn o ≡ false → Way o (Flush conn f ∷ up) kept last → Way o up kept last
@@ -113,7 +113,7 @@ popped (Some k) conn f up kept last isnt way = sym (ap (λ (b : Bool). cond b (f
     test : (conn == k) ≡ false
     test = grind (arith, nat_tests, isnt)
 
-first_of : (o : Option ℕ) (conn : ℕ) (f : FlushMsg) (up : List ToServer) (kept : List FlushMsg) (last : ℕ) → is_number conn o ≡ true → Way o (Flush conn f ∷ up) kept last → (k : ℕ) × (o ≡ Some k) × (f ∷ flushes_of k up ≡ above last kept)
+pub first_of : (o : Option ℕ) (conn : ℕ) (f : FlushMsg) (up : List ToServer) (kept : List FlushMsg) (last : ℕ) → is_number conn o ≡ true → Way o (Flush conn f ∷ up) kept last → (k : ℕ) × (o ≡ Some k) × (f ∷ flushes_of k up ≡ above last kept)
 first_of None conn f up kept last is way = absurd (true≢false (sym is))
 first_of (Some k) conn f up kept last is way = (k, refl, sym (ap (λ (b : Bool). cond b (f ∷ flushes_of k up) (flushes_of k up)) test) ∙ way)
   where
@@ -121,7 +121,7 @@ first_of (Some k) conn f up kept last is way = (k, refl, sym (ap (λ (b : Bool).
     test = grind (arith, nat_tests, is)
 
 -- acts whose state is known, and the rounds over the held requests after them
-after_held : {F : Server → Act → Type 0} {Q : Server → Type 0} {After : Row Server → Type 0} → KeptByActs F Q After → (most : ℕ) (s : Server) (list : List Act) → Q (acts s list) → After (hand_out (acts s (then_held most s list)))
+pub after_held : {F : Server → Act → Type 0} {Q : Server → Type 0} {After : Row Server → Type 0} → KeptByActs F Q After → (most : ℕ) (s : Server) (list : List Act) → Q (acts s list) → After (hand_out (acts s (then_held most s list)))
 after_held k zero s list holds = k.hands (acts s list) holds
 after_held {F} {Q} {After} k (suc most) s list holds = by_test (list_any opens list) (after_held k most (acts s list) (decide_anew (acts s list)) (acts_keep k.one (decide_anew (acts s list)) (acts s list) (k.anew (acts s list) holds) holds))
   where
@@ -129,29 +129,37 @@ after_held {F} {Q} {After} k (suc most) s list holds = by_test (list_any opens l
     by_test false rest = k.hands (acts s list) holds
     by_test true rest = subst (λ (t : Server). After (hand_out t)) (sym (acts_append list (then_held most (acts s list) (decide_anew (acts s list))) s)) rest
 
+pub flush_taken : (n : ℕ) (c : Client) (conn : ℕ) (f : FlushMsg) (up : List ToServer) (down : List ToClient) (s : Server) → is_number conn (number_of s.current n) ≡ true → Flushes n c (Flush conn f ∷ up) down s → Flushes n c up down (acts s (flush_rule n s f)) × (last_flush (acts s (flush_rule n s f)).entries n ≡ f.number)
+flush_taken n c conn f up down s test is = taken (first_of (number_of s.current n) conn f up c.unacked (last_flush s.entries n) test is.way)
+  where
+    taken : (k : ℕ) × (number_of s.current n ≡ Some k) × (f ∷ flushes_of k up ≡ above (last_flush s.entries n) c.unacked) → Flushes n c up down (acts s (flush_rule n s f)) × (last_flush (acts s (flush_rule n s f)).entries n ≡ f.number)
+    taken first =
+        let t = acts s (flush_rule n s f) in
+        let now = flush_in n c.flushes c.unacked (flushes_of first.0 up) (Way (number_of s.current n) (Flush conn f ∷ up) c.unacked) down s f first.2 is in (
+          with_current n c up down s t (current_all (flush_rule n s f) s)
+              (subst (λ (o : Option ℕ). In n c.flushes c.unacked (Way o up c.unacked) down t) (sym first.1)
+              (way_as n c.flushes c.unacked (λ k. (k ≡ f.number) × (flushes_of first.0 up ≡ above k c.unacked)) (Way (Some first.0) up c.unacked) down t.entries t.durable t.mail (λ k at w. w.1) now)),
+          now.way.0,
+        )
+
+pub flush_knows : (n : ℕ) (s : Server) (f : FlushMsg) → Knows s → Knows (acts s (flush_rule n s f))
+flush_knows n s f knows = acts_keep {F = KnownFits} {Q = Knows} one_knows (flush_rule n s f) s (flushing_fit KnownFits n (flushing_known n) (flush_rule n s f) s (flushing_flush n s f)) knows
+
+pub flush_passed : (n : ℕ) (c : Client) (conn : ℕ) (f : FlushMsg) (up : List ToServer) (down : List ToClient) (s : Server) → is_number conn (number_of s.current n) ≡ false → Flushes n c (Flush conn f ∷ up) down s → Flushes n c up down s
+flush_passed n c conn f up down s test is = record { fits = is.fits; counted = is.counted; most = is.most; follow = is.follow; agree = is.agree; way = popped (number_of s.current n) conn f up c.unacked (last_flush s.entries n) test is.way; mail = is.mail; down = is.down }
+
 own_flush : (n : ℕ) (c : Client) (conn : ℕ) (f : FlushMsg) (up : List ToServer) (down : List ToClient) (s : Server) → flush_fits f ≡ true → Known s.entries f.ino → Knows s → Flushes n c (Flush conn f ∷ up) down s → Server's Flushes n c up down (on_take s n (Flush conn f))
 own_flush n c conn f up down s fits known knows is = rw fits (by_current (is_number conn (number_of s.current n)) refl)
   where
     made : knows_file s f.ino ≡ true
     made = known_made s.entries f.ino known
 
-    told : Knows (acts s (flush_rule n s f))
-    told = acts_keep {F = KnownFits} {Q = Knows} one_knows (flush_rule n s f) s (flushing_fit KnownFits n (flushing_known n) (flush_rule n s f) s (flushing_flush n s f)) knows
-
-    taken : (k : ℕ) × (number_of s.current n ≡ Some k) × (f ∷ flushes_of k up ≡ above (last_flush s.entries n) c.unacked) → Server's Flushes n c up down (row_of s (flush_rule n s f))
-    taken first = after_held (by_acts n c up down) (2 + length s.held) s (flush_rule n s f) (
-      told,
-      with_current n c up down s (acts s (flush_rule n s f)) (current_all (flush_rule n s f) s)
-          (subst (λ (o : Option ℕ). In n c.flushes c.unacked (Way o up c.unacked) down (acts s (flush_rule n s f))) (sym first.1)
-          (flush_in n c.flushes c.unacked (flushes_of first.0 up) (Way (number_of s.current n) (Flush conn f ∷ up) c.unacked) down s f first.2 is)),
-    )
-
     by_current : (b : Bool) → is_number conn (number_of s.current n) ≡ b → Server's Flushes n c up down (cond (b && knows_file s f.ino) (row_of s (flush_rule n s f)) (drops s))
-    by_current true test = rw made (taken (first_of (number_of s.current n) conn f up c.unacked (last_flush s.entries n) test is.way))
-    by_current false test = hands n c up down s (record { fits = is.fits; counted = is.counted; most = is.most; follow = is.follow; agree = is.agree; way = popped (number_of s.current n) conn f up c.unacked (last_flush s.entries n) test is.way; mail = is.mail; down = is.down })
+    by_current true test = rw made (after_held (by_acts n c up down) (2 + length s.held) s (flush_rule n s f) (flush_knows n s f knows, (flush_taken n c conn f up down s test is).0))
+    by_current false test = hands n c up down s (flush_passed n c conn f up down s test is)
 
 -- The server takes another message.
-same_way : (n : ℕ) (c : Client) (m : ToServer) (up : List ToServer) (down : List ToClient) (s : Server) → ((k : ℕ) → flushes_of k (m ∷ up) ≡ flushes_of k up) → Flushes n c (m ∷ up) down s → Flushes n c up down s
+pub same_way : (n : ℕ) (c : Client) (m : ToServer) (up : List ToServer) (down : List ToClient) (s : Server) → ((k : ℕ) → flushes_of k (m ∷ up) ≡ flushes_of k up) → Flushes n c (m ∷ up) down s → Flushes n c up down s
 same_way n c m up down s same is = record { fits = is.fits; counted = is.counted; most = is.most; follow = is.follow; agree = is.agree; way = by_number (number_of s.current n) is.way; mail = is.mail; down = is.down }
   where
     by_number : (o : Option ℕ) → Way o (m ∷ up) c.unacked (last_flush s.entries n) → Way o up c.unacked (last_flush s.entries n)
@@ -169,18 +177,21 @@ welcomed n c conn up down t W go is = subst (λ (o : Option ℕ). In n c.flushes
         by_test true is = refl
         by_test false is = absurd (true≢false (sym is))
 
-welcomed_other : (n x : ℕ) (c : Client) (conn : ℕ) (up : List ToServer) (down : List ToClient) (t : Server) → (x == n) ≡ false → Flushes n c up down t → Flushes n c up down (welcome (connected t x conn) x conn)
+pub welcomed_other : (n x : ℕ) (c : Client) (conn : ℕ) (up : List ToServer) (down : List ToClient) (t : Server) → (x == n) ≡ false → Flushes n c up down t → Flushes n c up down (welcome (connected t x conn) x conn)
 welcomed_other n x c conn up down t other is = subst (λ (o : Option ℕ). In n c.flushes c.unacked (Way o up c.unacked) down (welcome (connected t x conn) x conn)) (sym (ap (λ (b : Bool). cond b (Some conn) (number_of t.current n)) other))
     (send_in n c.flushes c.unacked (Way (number_of t.current n) up c.unacked) down (connected t x conn) _ (λ to. absurd (true≢false (sym to ∙ other))) (record { fits = is.fits; counted = is.counted; most = is.most; follow = is.follow; agree = is.agree; way = is.way; mail = is.mail; down = is.down }))
 
-own_connect : (n : ℕ) (c : Client) (conn : ℕ) (said : List Claim) (flushes : List FlushMsg) (asked : Option (ℕ × Request)) (up : List ToServer) (down : List ToClient) (s : Server) → OpenLinked n c (Connect conn said flushes asked ∷ up) down s → Knows s → Flushes n c (Connect conn said flushes asked ∷ up) down s → Server's Flushes n c up down (on_take s n (Connect conn said flushes asked))
-own_connect n c conn said flushes asked up down s link knows is =
-    connect_row (by_acts n c up down) (ruled n) (λ t hand so. so) s n conn said flushes asked (knows, same_way n c (Connect conn said flushes asked) up down s (λ k. refl) is)
-    (welcomed n c conn up down (acts s (come_back s n said flushes)) (λ k. [] ≡ above k c.unacked) (λ way. of_behind (offer c) (link.1.base + 1) conn up link.1.up.2 ∙ way) came)
+pub connect_taken : (n : ℕ) (c : Client) (conn : ℕ) (said : List Claim) (flushes : List FlushMsg) (asked : Option (ℕ × Request)) (up : List ToServer) (down : List ToClient) (s : Server) → OpenLinked n c (Connect conn said flushes asked ∷ up) down s → Flushes n c (Connect conn said flushes asked ∷ up) down s → Flushes n c up down (welcome (connected (acts s (come_back s n said flushes)) n conn) n conn)
+connect_taken n c conn said flushes asked up down s link is = welcomed n c conn up down (acts s (come_back s n said flushes)) (λ k. [] ≡ above k c.unacked) (λ way. of_behind (offer c) (link.1.base + 1) conn up link.1.up.2 ∙ way) came
   where
     came : In n c.flushes c.unacked (λ k. [] ≡ above k c.unacked) down (acts s (come_back s n said flushes))
     came = subst (λ (l : List FlushMsg). In n c.flushes c.unacked (λ k. [] ≡ above k c.unacked) down (acts s (come_back s n said l))) (sym link.1.up.1.flushes)
         (back_in n c.flushes c.unacked (Way (number_of s.current n) (Connect conn said flushes asked ∷ up) c.unacked) down said s is)
+
+own_connect : (n : ℕ) (c : Client) (conn : ℕ) (said : List Claim) (flushes : List FlushMsg) (asked : Option (ℕ × Request)) (up : List ToServer) (down : List ToClient) (s : Server) → OpenLinked n c (Connect conn said flushes asked ∷ up) down s → Knows s → Flushes n c (Connect conn said flushes asked ∷ up) down s → Server's Flushes n c up down (on_take s n (Connect conn said flushes asked))
+own_connect n c conn said flushes asked up down s link knows is =
+    connect_row (by_acts n c up down) (ruled n) (λ t hand so. so) s n conn said flushes asked (knows, same_way n c (Connect conn said flushes asked) up down s (λ k. refl) is)
+    (connect_taken n c conn said flushes asked up down s link is)
 
 own : (n : ℕ) (c : Client) (m : ToServer) (up : List ToServer) (down : List ToClient) (s : Server) → OpenLinked n c (m ∷ up) down s → Knowing n c (m ∷ up) down s → Flushes n c (m ∷ up) down s → Server's Flushes n c up down (on_take s n m)
 own n c (Connect conn said flushes asked) up down s link k is = own_connect n c conn said flushes asked up down s link k.0 is
@@ -202,7 +213,7 @@ other n x c (Purged id) up down s isnt knows is = take_purged (by_acts n c up do
 other n x c (Deleted ino) up down s isnt knows is = take_deleted (by_acts n c up down) s x ino (knows, is)
 
 -- its own time
-durable : (n : ℕ) (c : Client) (up : List ToServer) (down : List ToClient) (s : Server) → Flushes n c up down s → Flushes n c up down (record s { durable = length s.entries })
+pub durable : (n : ℕ) (c : Client) (up : List ToServer) (down : List ToClient) (s : Server) → Flushes n c up down s → Flushes n c up down (record s { durable = length s.entries })
 durable n c up down s is = record {
   fits = omega arith;
   counted = is.counted;
@@ -214,7 +225,7 @@ durable n c up down s is = record {
   down = subst (λ (l : List Entry). AllBound n l down) (sym (take-length s.entries)) (all_bound_more n (take s.durable s.entries) s.entries down (last_take n s.durable s.entries is.counted) is.down);
 }
 
-survives : (n : ℕ) (c : Client) (up : List ToServer) (down : List ToClient) (s : Server) (k : ℕ) → nat_le k (buffered s) ≡ true → Flushes n c up down s → Flushes n c up down (left_with s (s.durable + k))
+pub survives : (n : ℕ) (c : Client) (up : List ToServer) (down : List ToClient) (s : Server) (k : ℕ) → nat_le k (buffered s) ≡ true → Flushes n c up down s → Flushes n c up down (left_with s (s.durable + k))
 survives n c up down s k fits is = record {
   fits = let long = length-take-le (s.durable + k) s.entries (room k s fits is.fits) in omega (arith, long);
   counted = counted_take n (s.durable + k) s.entries is.counted;
@@ -236,7 +247,7 @@ survives n c up down s k fits is = record {
     same : take (s.durable + k) (take (s.durable + k) s.entries) ≡ take (s.durable + k) s.entries
     same = take_take (s.durable + k) (s.durable + k) s.entries (omega arith) (room k s fits is.fits)
 
-turn_fit : (n : ℕ) (s : Server) → Knows s → IfSome (turn s) (Fit (Fits n) s)
+pub turn_fit : (n : ℕ) (s : Server) → Knows s → IfSome (turn s) (Fit (Fits n) s)
 turn_fit n s k = by_turn (turn s) (ruled_turn s k.deferred)
   where
     by_turn : (o : Option (List Act)) → IfSome o (AllRuled s.entries) → IfSome o (Fit (Fits n) s)
@@ -348,7 +359,7 @@ alone kept = record {
 abbrev pub Informed : View
 Informed n c up down s = OpenLinked n c up down s × Knowing n c up down s
 
-flushes : KeptBefore Informed Flushes
+pub flushes : KeptBefore Informed Flushes
 flushes = record {
   op = λ n c up down s a f. if_row (on_op c) (Stays (take s.durable s.entries) c) (Client's Flushes n up down s) (λ r stays. stays_row n c up down down s r f.down stays f) (op_stays (take s.durable s.entries) c c.lines a.1.1.holds);
   flush = λ n c up down s a f. if_row (on_flush c) (λ r. (c.frozen ≡ false) × Sends (take s.durable s.entries) c r) (Client's Flushes n up down s) (λ r sends. sends_row n c up down s r (flowing (offer c) up (number_of s.current n) (down ++ mail_of n s.mail) sends.0 a.0.1).number sends.1 f) (flush_sends (take s.durable s.entries) c a.1.1.holds);
@@ -365,12 +376,17 @@ flushes = record {
 abbrev pub All : View
 All n c up down s = Informed n c up down s × Flushes n c up down s
 
+pub rows_of_all : KeptByRows All
+rows_of_all = joined (joined (rows_of_acts OpenLinked linked (all_fit OpenLinked)) (alone knowing)) flushes
+
+pub first_all : (script : Script) (n : ℕ) → number_of (start script).server.current n ≡ Some 1 → All n (new_client n (script.clients + 1) (lines_of n script.lines)) [] [] (start script).server
+first_all script n is = (
+  ((tt, first_link (new_client n (script.clients + 1) (lines_of n script.lines)) _ refl is), first_knowing n (script.clients + 1) (lines_of n script.lines) script),
+  record { fits = omega arith; counted = tt; most = omega arith; follow = refl; agree = tt; way = rw is refl; mail = tt; down = tt },
+)
+
 pub all_hold : (script : Script) (steps : List Step) → EachClient All (after (start script) steps)
-all_hold script steps = run_keeps All (joined (joined (rows_of_acts OpenLinked linked (all_fit OpenLinked)) (alone knowing)) flushes) (start script) steps
-    (at_start All script (λ n is. (
-      ((tt, first_link (new_client n (script.clients + 1) (lines_of n script.lines)) _ refl is), first_knowing n (script.clients + 1) (lines_of n script.lines) script),
-      record { fits = omega arith; counted = tt; most = omega arith; follow = refl; agree = tt; way = rw is refl; mail = tt; down = tt },
-    )))
+all_hold script steps = run_keeps All rows_of_all (start script) steps (at_start All script (λ n is. first_all script n is))
 
 -- the laws
 pub gaps_law : (script : Script) (history : List Event) → EachClient NoGap (world_after script history)

@@ -1,5 +1,5 @@
 -- The numbers of one client's flushes: as they stand in the journal, as the client keeps them, and on their way.
-use Rattle.std.specs.Prelude.{◌≡◌, ◌≤◌, ℕ, ◌+◌, Bool, true, ◌&&◌, ◌==◌, nat_lt, List, [], ◌∷◌, filter, take, if◌then◌else◌, IfSome}
+use Rattle.std.specs.Prelude.{◌≡◌, ◌≤◌, ℕ, ◌+◌, Bool, true, ◌&&◌, ◌==◌, nat_lt, List, [], ◌∷◌, filter, take, if◌then◌else◌, IfSome, fold, ◌++◌}
 use Rattle.plain_types.specs.declared.entry.Entry.{Entry}
 use Rattle.plain_types.specs.declared.message.FlushMsg.{FlushMsg}
 use Rattle.plain_types.specs.declared.message.ToClient.{ToClient}
@@ -10,7 +10,7 @@ use Rattle.plain_journal.specs.Table.{is_flush, last_flush}
 use Rattle.step_table.specs.Messages.{to_server_fits}
 use Rattle.step_table.specs.ServerState.{number_of, is_current}
 use Rattle.step_table.specs.Flushes.{knows_file, flush_entry}
-use Rattle.run_laws.specs.Links.{View}
+use Rattle.run_laws.specs.Links.{View, mail_of}
 
 -- an entry that is a flush of a client
 abbrev pub is_flush_of : ℕ → Entry → Bool
@@ -98,3 +98,30 @@ abbrev pub IsTaken : View
 IsTaken n c up down s =
     (conn : ℕ) (f : FlushMsg) (rest : List ToServer)
     → up ≡ Flush conn f ∷ rest → (to_server_fits (Flush conn f) ≡ true) × (knows_file s f.ino ≡ true)
+
+-- the number up to which a message of a connection acknowledges, and what it has to be: a Welcome says up to where, and each
+-- acknowledgement is of the next flush
+abbrev pub next_ack : ℕ → ℕ → ToClient → ℕ
+next_ack conn last (FlushAck k stamp number) = if k == conn then number else last
+next_ack conn last (Welcome k stamp flushed update) = if k == conn then flushed else last
+next_ack conn last m = last
+
+abbrev pub IsNext : ℕ → ℕ → ToClient → Type 0
+IsNext conn last (FlushAck k stamp number) = (k == conn) ≡ true → number ≡ last + 1
+IsNext conn last m = Unit {0}
+
+abbrev pub AllNext : ℕ → ℕ → List ToClient → Type 0
+AllNext conn last [] = Unit {0}
+AllNext conn last (m ∷ down) = IsNext conn last m × AllNext conn (next_ack conn last m) down
+
+-- the number up to which messages acknowledge
+abbrev pub last_ack : ℕ → ℕ → List ToClient → ℕ
+last_ack conn last down = fold (next_ack conn) last down
+
+-- Acknowledgements of the client's connection go on one by one, and where the server has this connection they end at the
+-- last flush that it took.
+abbrev pub InTurn : View
+InTurn n c up down s =
+    let all = down ++ mail_of n s.mail in
+    (first : ℕ) × AllNext c.conn first all
+    × IfSome (number_of s.current n) (λ k. (k == c.conn) ≡ true → last_ack c.conn first all ≡ last_flush s.entries n)

@@ -5,7 +5,7 @@ ghost use Rattle.plain_types.specs.declared.script.Script.{Script};
 ghost use Rattle.step_table.specs.Legal.{Legal};
 ghost use Rattle.run_laws.specs.Moments.{world_after};
 ghost use Rattle.run_laws.specs.Links.{EachClient};
-ghost use Rattle.run_laws.specs.FlushNumbers.{NoGap, Kept, Acknowledged, AsSent, OnTheWay, ComesNext, IsTaken};
+ghost use Rattle.run_laws.specs.FlushNumbers.{NoGap, Kept, Acknowledged, AsSent, OnTheWay, ComesNext, InTurn, IsTaken};
 
 /// In the journal the flushes of each client are numbered 1, 2, .. without a gap, none twice, up to a number that the client
 /// has given.
@@ -36,4 +36,10 @@ pub fn a_flush_comes_once_a_connection()
 /// The server refuses no flush for its file or its numbers: the file is one that the server knows, and the numbers can be.
 pub fn no_flush_is_refused()
     ensures { (script : Script) (history : List Event) → Legal history script → EachClient IsTaken (world_after script history) }
+{}
+
+/// Acknowledgements on the way to a client, of its connection, are of one flush after the other, a Welcome saying up to where;
+/// and where the server has this connection they end at the last flush that it took.
+pub fn flushes_are_acknowledged_in_turn()
+    ensures { (script : Script) (history : List Event) → Legal history script → EachClient InTurn (world_after script history) }
 {}

@@ -13,7 +13,7 @@ mod tables;
 
 pub use flushes::{
     a_flush_comes_once_a_connection, a_flush_is_written_as_it_was_sent, flush_numbers_have_no_gap,
-    no_flush_is_refused, what_is_acknowledged_is_durable,
+    flushes_are_acknowledged_in_turn, no_flush_is_refused, what_is_acknowledged_is_durable,
 };
 pub use journal::the_journal_only_grows;
 pub use links::{connection_numbers_never_fall, links_are_in_order};
