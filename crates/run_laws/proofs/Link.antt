@@ -138,7 +138,7 @@ behind_up o k [] frozen is = is
 behind_up o k (Connect conn said flushes asked ∷ up) frozen is = (frozen, is.0, is.1)
 behind_up o k (m ∷ up) frozen is = absurd is
 
-up_most : (o : Offer) (k : ℕ) (up : List ToServer) → Up o k up → k ≤ o.conn
+pub up_most : (o : Offer) (k : ℕ) (up : List ToServer) → Up o k up → k ≤ o.conn
 up_most o k [] is = omega (arith, is)
 up_most o k (Connect conn said flushes asked ∷ up) is = let more = behind_most o (k + 1) up is.2 in omega (arith, more)
 up_most o k (Ask conn tid request ∷ up) is = up_most o k up is.1

@@ -5,3 +5,4 @@ pub mod Requests
 pub mod Tables
 pub mod Plain
 pub mod Prepared
+pub mod FlushNumbers

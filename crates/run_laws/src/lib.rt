@@ -2,6 +2,7 @@
 //! no body, and their contracts are the laws.
 #![tactic(auto)]
 
+mod flushes;
 mod journal;
 mod links;
 mod requests;
@@ -10,6 +11,10 @@ mod stamps;
 mod steps;
 mod tables;
 
+pub use flushes::{
+    a_flush_comes_once_a_connection, a_flush_is_written_as_it_was_sent, flush_numbers_have_no_gap,
+    flushes_are_acknowledged_in_turn, no_flush_is_refused, what_is_acknowledged_is_durable,
+};
 pub use journal::the_journal_only_grows;
 pub use links::{connection_numbers_never_fall, links_are_in_order};
 pub use requests::{a_request_has_one_effect, what_is_asked_is_open};
