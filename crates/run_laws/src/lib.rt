@@ -2,15 +2,18 @@
 //! no body, and their contracts are the laws.
 #![tactic(auto)]
 
+mod entries;
 mod flushes;
 mod journal;
 mod links;
 mod requests;
 mod runs;
+mod snapshots;
 mod stamps;
 mod steps;
 mod tables;
 
+pub use entries::{effects_are_of_clients, what_is_entered_is_a_journal};
 pub use flushes::{
     a_flush_comes_once_a_connection, a_flush_is_written_as_it_was_sent, flush_numbers_have_no_gap,
     flushes_are_acknowledged_in_turn, no_flush_is_refused, what_is_acknowledged_is_durable,
@@ -19,18 +22,13 @@ pub use journal::the_journal_only_grows;
 pub use links::{connection_numbers_never_fall, links_are_in_order};
 pub use requests::{a_request_has_one_effect, what_is_asked_is_open};
 pub use runs::runs_are_legal;
+pub use snapshots::{
+    operations_are_as_prepared, snapshot_stamps_never_fall, snapshots_are_made_in_rising_order,
+    snapshots_are_removed_as_prepared,
+};
 pub use stamps::{stamps_never_fall, what_is_told_is_durable};
 pub use steps::a_history_is_determined_by_its_steps;
 pub use tables::{
     a_file_has_one_writer, ids_are_given_in_order, one_operation_at_a_time,
     what_is_purged_was_removed,
-};
-
-mod entries;
-mod snapshots;
-
-pub use entries::{effects_are_of_clients, what_is_entered_is_a_journal};
-pub use snapshots::{
-    operations_are_as_prepared, snapshot_stamps_never_fall, snapshots_are_made_in_rising_order,
-    snapshots_are_removed_as_prepared,
 };
