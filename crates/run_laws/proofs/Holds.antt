@@ -38,7 +38,7 @@ use Rattle.step_table.specs.Messages.{is_id, is_size, trace_fits, flush_fits, an
 use Rattle.step_table.specs.Row.{Row}
 use Rattle.step_table.specs.ClientState.{Under, Idle, Open, AtStore, Client, Edit, edit_of, context_in, without_context, with_context, connects, stays}
 use Rattle.step_table.specs.ClientLines.{edit_file, edit_line, read_line, opened, begin_asked, begin_other, begin_with, begin, may_begin, op_of, reading, mark_flush, release_flush, with_let_go, send_item, send_due, sends_due, unsent_in, file_due, on_flush}
-use Rattle.step_table.specs.ClientTakes.{marked, renewed, updated, acked, goes_on, granted, asks_for, take_grant, wants_bytes, with_found, found, take_answer, take_reply, may_take, take_own, having_heard, on_told, is_key, key_of, take_read, take_stored, on_stored}
+use Rattle.step_table.specs.ClientTakes.{marked, renewed, updated, acked, goes_on, granted, asks_for, take_grant, wants_bytes, with_found, found, take_answer, takes_answer, take_reply, may_take, take_own, having_heard, on_told, is_key, key_of, take_read, take_stored, on_stored}
 use Rattle.step_table.specs.World.{to_server as for_server}
 use Rattle.run_laws.proofs.Clients.{updated_same}
 use Rattle.run_laws.proofs.Held.{EditFits, UnderFits, ContextsFit, AllHeld, Holding, MakesPiece, makes_piece, piece_fits, marked_fits, held_with, held_hold, held_settled, held_sent, due_fits, DueFits, context_fits_in, contexts_without, contexts_with, trace_seq, again_fits, let_go_fits}
@@ -233,7 +233,7 @@ answer_stays entries c number text asked let_go stamp said edit known fits holds
 reply_stays : (entries : List Entry) (c : Client) (tid : ℕ) (stamp : Stamp) (said : Answer) (under : Under) → UnderFits under → SaysKnown entries said → answer_fits said ≡ true → HoldsIn entries c → Stays entries c (take_reply c tid stamp said under)
 reply_stays entries c tid stamp said Idle edit known fits holds = still entries c holds
 reply_stays entries c tid stamp said (AtStore number entry ino head) edit known fits holds = still entries c holds
-reply_stays entries c tid stamp said (Open number open_tid text asked let_go) edit known fits holds = stays_if entries c (open_tid == tid) _ (stays c) (answer_stays entries c number text asked let_go stamp said edit known fits holds) (still entries c holds)
+reply_stays entries c tid stamp said (Open number open_tid text asked let_go) edit known fits holds = stays_if entries c (open_tid == tid && takes_answer c said) _ (stays c) (answer_stays entries c number text asked let_go stamp said edit known fits holds) (still entries c holds)
 
 -- a capability is taken
 goes_on_stays : (entries : List Entry) (c : Client) (number : ℕ) (text : Line) (ino : Ino) (o : Option Edit) → edit_of text ≡ o → EditFits o → HoldsIn entries c → Stays entries c (goes_on c number ino o)
