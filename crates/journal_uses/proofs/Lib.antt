@@ -1,2 +1,4 @@
 pub mod Dead
 pub mod Moves
+pub mod Numbers
+pub mod Made

@@ -21,7 +21,7 @@ use Rattle.file_uses.specs.declared.files.FileUse.{FileUse}
 use Rattle.file_uses.specs.Uses.{Uses, changed, one_more, as_dropped, linked, opened, closed, dropped}
 use Rattle.journal_uses.specs.Stands.{is_regular, use_in, uses_in, uses_after, keeps_uses}
 
-any_more : (p : Entry → Bool) (entries : List Entry) (e : Entry) → list_any p (entries ++ e ∷ []) ≡ (list_any p entries || p e)
+pub any_more : (p : Entry → Bool) (entries : List Entry) (e : Entry) → list_any p (entries ++ e ∷ []) ≡ (list_any p entries || p e)
 any_more p [] e = last (p e)
   where
     last : (b : Bool) → (b || false) ≡ b

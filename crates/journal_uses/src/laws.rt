@@ -2,10 +2,10 @@
 ghost use Rattle.std.specs.Prelude.{◌≡◌, ◌++◌, ◌∷◌, [], ℕ, List, Bool, true};
 ghost use Rattle.snap_ids.specs.declared.id.Ino.{Ino};
 ghost use Rattle.plain_types.specs.declared.entry.Entry.{Entry};
-ghost use Rattle.plain_types.specs.declared.entry.What.TheVariants.{Link, OpenFile, CloseFile, Deadfile};
+ghost use Rattle.plain_types.specs.declared.entry.What.TheVariants.{Mkdir, Create, Link, OpenFile, CloseFile, Deadfile};
 ghost use Rattle.plain_journal.specs.Legal.{is_journal};
 ghost use Rattle.plain_journal.specs.Table.{dead};
-ghost use Rattle.file_uses.specs.Uses.{no_file, linked, opened, closed, dropped, dead_of};
+ghost use Rattle.file_uses.specs.Uses.{no_file, made, linked, opened, closed, dropped, dead_of};
 ghost use Rattle.journal_uses.specs.Stands.{uses_after, keeps_uses};
 
 /// A new value stands for the journal without entries.
@@ -16,6 +16,20 @@ pub fn a_new_value_stands()
 /// The dead files are those of the journal.
 pub fn the_dead_files_are_the_same()
     ensures { (entries : List Entry) → dead_of (uses_after entries) ≡ dead entries }
+{}
+
+/// A new file is made, with one name.
+pub fn a_new_file_is_made()
+    ensures { (entries : List Entry) (e : Entry) (dir ino : Ino) (name : List ℕ) (mode : ℕ)
+        → is_journal (entries ++ e ∷ []) ≡ true → e.what ≡ Create dir name ino mode
+        → uses_after (entries ++ e ∷ []) ≡ made ino (uses_after entries) }
+{}
+
+/// A new directory is no file.
+pub fn a_new_directory_changes_nothing()
+    ensures { (entries : List Entry) (e : Entry) (dir ino : Ino) (name : List ℕ)
+        → is_journal (entries ++ e ∷ []) ≡ true → e.what ≡ Mkdir dir name ino
+        → uses_after (entries ++ e ∷ []) ≡ uses_after entries }
 {}
 
 /// A further name is one more of its file, and changes nothing else.
