@@ -2,3 +2,4 @@ pub mod Dead
 pub mod Moves
 pub mod Numbers
 pub mod Made
+pub mod Counted
