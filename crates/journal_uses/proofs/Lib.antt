@@ -1,2 +1,5 @@
 pub mod Dead
 pub mod Moves
+pub mod Numbers
+pub mod Made
+pub mod Counted

@@ -21,7 +21,7 @@ use Rattle.file_uses.specs.declared.files.FileUse.{FileUse}
 use Rattle.file_uses.specs.Uses.{Uses, changed, one_more, as_dropped, linked, opened, closed, dropped}
 use Rattle.journal_uses.specs.Stands.{is_regular, use_in, uses_in, uses_after, keeps_uses}
 
-any_more : (p : Entry → Bool) (entries : List Entry) (e : Entry) → list_any p (entries ++ e ∷ []) ≡ (list_any p entries || p e)
+pub any_more : (p : Entry → Bool) (entries : List Entry) (e : Entry) → list_any p (entries ++ e ∷ []) ≡ (list_any p entries || p e)
 any_more p [] e = last (p e)
   where
     last : (b : Bool) → (b || false) ≡ b
@@ -69,7 +69,7 @@ none_more state collected = λ i. uses_in state (λ f. or_false (collected f) i)
 
 -- a map that goes over the files is a change of them
 module _ (f g : Inode → ℕ × FileUse) (k : Ino) (change : FileUse → FileUse) (same : (inode : Inode) → f inode ≡ cond ((g inode).0 == k.0) ((g inode).0, change (g inode).1) (g inode)) where
-  over : (inodes : List Inode) → map f inodes ≡ changed k change (map g inodes)
+  pub over : (inodes : List Inode) → map f inodes ≡ changed k change (map g inodes)
   over [] = refl
   over (inode ∷ inodes) = ap (λ (x : ℕ × FileUse). x ∷ map f inodes) (same inode) ∙ ap (λ (xs : List (ℕ × FileUse)). cond ((g inode).0 == k.0) ((g inode).0, change (g inode).1) (g inode) ∷ xs) (over inodes)
 

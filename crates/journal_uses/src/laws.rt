@@ -1,11 +1,13 @@
 // What is true of every journal, and of the files in use that stand for it.
-ghost use Rattle.std.specs.Prelude.{◌≡◌, ◌++◌, ◌∷◌, [], ℕ, List, Bool, true};
+ghost use Rattle.std.specs.Prelude.{◌≡◌, ◌++◌, ◌∷◌, [], ℕ, List, Bool, true, Some};
 ghost use Rattle.snap_ids.specs.declared.id.Ino.{Ino};
 ghost use Rattle.plain_types.specs.declared.entry.Entry.{Entry};
-ghost use Rattle.plain_types.specs.declared.entry.What.TheVariants.{Link, OpenFile, CloseFile, Deadfile};
+ghost use Rattle.plain_types.specs.declared.entry.What.TheVariants.{Mkdir, Create, Link, Unlink, Rename, OpenFile, CloseFile, Deadfile};
+ghost use Rattle.plain_tree.specs.State.{lookup};
+ghost use Rattle.plain_journal.specs.Entries.{state_after};
 ghost use Rattle.plain_journal.specs.Legal.{is_journal};
 ghost use Rattle.plain_journal.specs.Table.{dead};
-ghost use Rattle.file_uses.specs.Uses.{no_file, linked, opened, closed, dropped, dead_of};
+ghost use Rattle.file_uses.specs.Uses.{no_file, made, linked, unlinked, opened, closed, dropped, dead_of};
 ghost use Rattle.journal_uses.specs.Stands.{uses_after, keeps_uses};
 
 /// A new value stands for the journal without entries.
@@ -18,11 +20,40 @@ pub fn the_dead_files_are_the_same()
     ensures { (entries : List Entry) → dead_of (uses_after entries) ≡ dead entries }
 {}
 
+/// A new file is made, with one name.
+pub fn a_new_file_is_made()
+    ensures { (entries : List Entry) (e : Entry) (dir ino : Ino) (name : List ℕ) (mode : ℕ)
+        → is_journal (entries ++ e ∷ []) ≡ true → e.what ≡ Create dir name ino mode
+        → uses_after (entries ++ e ∷ []) ≡ made ino (uses_after entries) }
+{}
+
+/// A new directory is no file.
+pub fn a_new_directory_changes_nothing()
+    ensures { (entries : List Entry) (e : Entry) (dir ino : Ino) (name : List ℕ)
+        → is_journal (entries ++ e ∷ []) ≡ true → e.what ≡ Mkdir dir name ino
+        → uses_after (entries ++ e ∷ []) ≡ uses_after entries }
+{}
+
 /// A further name is one more of its file, and changes nothing else.
 pub fn a_link_is_a_name_more()
     ensures { (entries : List Entry) (e : Entry) (ino dir : Ino) (name : List ℕ)
         → is_journal (entries ++ e ∷ []) ≡ true → e.what ≡ Link ino dir name
         → uses_after (entries ++ e ∷ []) ≡ linked ino (uses_after entries) }
+{}
+
+/// A name that goes is one less of the file that had it, and changes nothing else.
+pub fn an_unlink_is_a_name_less()
+    ensures { (entries : List Entry) (e : Entry) (dir ino : Ino) (name : List ℕ)
+        → is_journal (entries ++ e ∷ []) ≡ true → e.what ≡ Unlink dir name
+        → lookup (state_after entries).entries dir name ≡ Some ino
+        → uses_after (entries ++ e ∷ []) ≡ unlinked ino (uses_after entries) }
+{}
+
+/// What moves keeps the number of its names.
+pub fn a_rename_changes_nothing()
+    ensures { (entries : List Entry) (e : Entry) (dir to_dir : Ino) (name to_name : List ℕ)
+        → is_journal (entries ++ e ∷ []) ≡ true → e.what ≡ Rename dir name to_dir to_name
+        → uses_after (entries ++ e ∷ []) ≡ uses_after entries }
 {}
 
 /// What a client opens is open under its handle until it closes that.
