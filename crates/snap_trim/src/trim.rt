@@ -1,12 +1,12 @@
 // What is dropped, and in which order.
-ghost use Rattle.std.specs.Prelude.{◌≡◌, ◌≤◌, true, false, IfSome};
+ghost use Rattle.std.specs.Prelude.{◌≡◌, ◌<◌, ◌≤◌, true, false, IfSome};
 ghost use Rattle.snap_ids.specs.Context.{is_listed};
 ghost use Rattle.snap_ids.specs.declared.id.Ino.{Ino};
 ghost use Rattle.snap_ids.specs.declared.id.SnapId.{SnapId as Id};
 ghost use Rattle.snap_ids.specs.declared.id.TheConstants.{NOSNAP};
 ghost use Rattle.inode_versions.specs.Table.{attr_at, head_of, trimmed_table};
 ghost use Rattle.inode_versions.specs.Table.{count_unneeded as unneeded_inodes};
-ghost use Rattle.dentry_tree.specs.Dentries.{entries_at, kind_of};
+ghost use Rattle.dentry_tree.specs.Dentries.{entries_at, kind_of, newest};
 ghost use Rattle.dentry_tree.specs.Places.{trimmed_all};
 ghost use Rattle.dentry_tree.specs.Places.{count_unneeded as unneeded_entries};
 ghost use Rattle.snap_table.specs.Rising.{rises};
@@ -44,6 +44,8 @@ pub fn trim_all(inodes: &mut InodeTable, dirs: &mut DirTree, live: &Ids) -> usiz
     ensures names { (s : Id) → is_listed s live.now ≡ true → entries_at s dirs.new ≡ entries_at s dirs.old }
     ensures live_names { entries_at NOSNAP dirs.new ≡ entries_at NOSNAP dirs.old }
     ensures kinds { (i : Ino) → kind_of dirs.new i ≡ kind_of dirs.old i }
+    ensures changed { newest dirs.new ≤ newest dirs.old }
+    ensures later_names { (s : Id) → newest dirs.old < s.0 → s.0 ≤ NOSNAP.0 → entries_at s dirs.new ≡ entries_at s dirs.old }
 {
     let of_inodes = inodes.trim(live);
     let of_entries = dirs.trim(live);
