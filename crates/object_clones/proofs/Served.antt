@@ -1,19 +1,18 @@
 -- What a store serves at a snapshot: the clones and the bytes that they keep, message by message.
-use Rattle.std.proofs.Common.{◌≡◌, ℕ, ◌+◌, ◌*◌, ◌<◌, Bool, true, false, not, nat_lt, nat_le, List, [], ◌∷◌, ◌++◌, length, map, filter, cond, get_or, Option, None, Some, if◌then◌else◌, sym, ◌∙◌, refl, ap, arith, append-nil}
+use Rattle.std.proofs.Common.{◌≡◌, ℕ, ◌<◌, Bool, true, false, nat_lt, nat_le, List, [], ◌∷◌, ◌++◌, length, map, cond, get_or, Option, None, Some, if◌then◌else◌, sym, ◌∙◌, refl, ap, arith, append-nil}
 use Rattle.std.specs.Prelude.{fold}
 use Rattle.std.specs.List.{filter_map, cons_option}
 use Rattle.std.specs.Option.{option_map}
 use Rattle.std.proofs.lemmas.List.{get_or_past, map-append}
 use Rattle.std.proofs.lemmas.List.Elements.{filter_map-append}
-use Rattle.std.proofs.lemmas.List.Sums.{fold_push}
 use Rattle.snap_ids.specs.declared.id.Ino.{Ino}
 use Rattle.snap_ids.specs.declared.id.SnapId.{SnapId}
 use Rattle.snap_ids.specs.Context.{Context, is_listed}
 use Rattle.plain_types.specs.declared.message.ToStore.{ToStore}
-use Rattle.object_log.specs.Bytes.{byte_after, byte_of, any_context}
+use Rattle.object_log.specs.Bytes.{byte_after, any_context}
 use Rattle.object_log.specs.Objects.{Object, Touch, touch, touched, with_clone, object_after, object_of, purged_after}
 use Rattle.object_log.specs.Objects as log
-use Rattle.object_log.specs.Serves.{CloneByte, Place, made_by, keep_byte, place_after, nothing_there, place_of, still_kept, still_there, byte_kept, byte_served}
+use Rattle.object_log.specs.Serves.{CloneByte, Place, made_by, keep_byte, place_after, still_kept, still_there, byte_kept, byte_served}
 use Rattle.object_clones.specs.Bytes.{or_empty}
 use Rattle.object_clones.specs.Objects.{Kept, Plain, clone_at, bytes_at_snap, with_kept, changed, purged_clones}
 use Rattle.object_clones.specs.Stands.{IsObject, kept_at}

@@ -2,4 +2,4 @@ pub mod Many
 pub mod Laid
 mod Listing
 mod Changes
-mod Agrees
+pub mod Agrees
