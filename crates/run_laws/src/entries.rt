@@ -10,8 +10,8 @@ ghost use Rattle.step_table.specs.Legal.{Legal};
 ghost use Rattle.step_table.specs.World.{journal, client};
 ghost use Rattle.run_laws.specs.Moments.{world_after};
 
-/// What the server enters is a legal journal at each moment, and so is what is durable, as long as no more than 2^62 ids of
-/// snapshots were given: each entry may follow those before it. Its change isn't refused by the tree as it is then; a new
+/// What the server enters is a legal journal at each moment, and so is what is durable, as long as the next id of a snapshot
+/// is at most 2^62: each entry may follow those before it. Its change isn't refused by the tree as it is then; a new
 /// directory or file has the next inode; a snapshot that is made has an id above the last one; a snapshot that is removed
 /// is live; a flush is of a file that was made; what was purged was to be purged, and what was collected was dead.
 pub fn what_is_entered_is_a_journal()
