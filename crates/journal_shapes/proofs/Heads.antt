@@ -42,10 +42,6 @@ pub none_there : (ino : Ino) (s : SnapId) → attr_at [] ino s ≡ None
 unfolding attr_at
 none_there ino s = refl
 
-pub none_since : (ino : Ino) → since [] ino ≡ None
-unfolding since
-none_since ino = refl
-
 -- a head after a change, and after a size is settled
 pub changed_begins : (follows t : SnapId) (first : Option SnapId) → follows.0 < t.0 → begins_by t first ≡ true → begins_by t (option_map (since_changed follows) first) ≡ true
 changed_begins follows t None below is = cc
