@@ -71,7 +71,7 @@ module _ (state : State) (collected : Ino → Bool) (once : IsOnce state.entries
     abbrev less : State
     less = record state { entries = without dir name state.entries }
 
-    exact : (x : Ino) → count state.entries x ≡ one_if (same_ino ino x) + count (without dir name state.entries) x
+    pub exact : (x : Ino) → count state.entries x ≡ one_if (same_ino ino x) + count (without dir name state.entries) x
     exact x = count_exact dir name state.entries x once ∙ ap (λ (o : Option Ino). named o x + count (without dir name state.entries) x) found
 
     fewer : (b : Bool) (inode : Inode) → (inode.ino.0 == ino.0) ≡ b → use_in less collected inode ≡ cond b (inode.ino.0, one_less (use_in state collected inode).1) (use_in state collected inode)

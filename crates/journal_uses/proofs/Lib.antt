@@ -3,3 +3,4 @@ pub mod Moves
 pub mod Numbers
 pub mod Made
 pub mod Counted
+pub mod Folders

@@ -2,7 +2,7 @@
 ghost use Rattle.std.specs.Prelude.{◌≡◌, ◌++◌, ◌∷◌, [], ℕ, List, Bool, true, Some};
 ghost use Rattle.snap_ids.specs.declared.id.Ino.{Ino};
 ghost use Rattle.plain_types.specs.declared.entry.Entry.{Entry};
-ghost use Rattle.plain_types.specs.declared.entry.What.TheVariants.{Mkdir, Create, Link, Unlink, Rename, OpenFile, CloseFile, Deadfile};
+ghost use Rattle.plain_types.specs.declared.entry.What.TheVariants.{Mkdir, Create, Link, Unlink, Rmdir, Rename, OpenFile, CloseFile, Deadfile};
 ghost use Rattle.plain_tree.specs.State.{lookup};
 ghost use Rattle.plain_journal.specs.Entries.{state_after};
 ghost use Rattle.plain_journal.specs.Legal.{is_journal};
@@ -47,6 +47,13 @@ pub fn an_unlink_is_a_name_less()
         → is_journal (entries ++ e ∷ []) ≡ true → e.what ≡ Unlink dir name
         → lookup (state_after entries).entries dir name ≡ Some ino
         → uses_after (entries ++ e ∷ []) ≡ unlinked ino (uses_after entries) }
+{}
+
+/// A directory that goes is no file.
+pub fn a_removed_directory_changes_nothing()
+    ensures { (entries : List Entry) (e : Entry) (dir : Ino) (name : List ℕ)
+        → is_journal (entries ++ e ∷ []) ≡ true → e.what ≡ Rmdir dir name
+        → uses_after (entries ++ e ∷ []) ≡ uses_after entries }
 {}
 
 /// What moves keeps the number of its names.
