@@ -122,7 +122,7 @@ dir_of File b is = cc
 removable_dir : (state : State) (ino : Ino) → is_removable state ino ≡ true → kind_in state.inodes ino ≡ Dir
 removable_dir state ino is = dir_of (kind_in state.inodes ino) _ (both_true (is_directory state ino) _ (both_true _ _ is).0).0
 
-found_one : (o : Option Ino) (test : Ino → Bool) → not (names_one test o) ≡ false → (ino : Ino) × (o ≡ Some ino) × (test ino ≡ true)
+pub found_one : (o : Option Ino) (test : Ino → Bool) → not (names_one test o) ≡ false → (ino : Ino) × (o ≡ Some ino) × (test ino ≡ true)
 found_one None test fine = cc
 found_one (Some ino) test fine = (ino, refl, holds (test ino) fine)
   where

@@ -4,3 +4,4 @@ pub mod Numbers
 pub mod Made
 pub mod Counted
 pub mod Folders
+pub mod Found
