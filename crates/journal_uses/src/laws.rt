@@ -116,4 +116,7 @@ pub fn the_calls_may_be_made()
         → is_journal (entries ++ e ∷ []) ≡ true → e.what ≡ OpenFile handle ino writable
         → (open_of (uses_after entries).handles e.client handle ≡ None)
         × IsSome (use_of (uses_after entries) ino) }
+    ensures dropped { (entries : List Entry) (e : Entry) (ino : Ino)
+        → is_journal (entries ++ e ∷ []) ≡ true → e.what ≡ Deadfile ino
+        → IsSome (use_of (uses_after entries) ino) }
 {}
