@@ -1,5 +1,5 @@
 -- No two inodes have a number, so a directory that goes is no file.
-use Rattle.std.proofs.Common.{◌≡◌, ℕ, ◌+◌, ◌<◌, ◌≤◌, Bool, true, false, not, ◌&&◌, ◌==◌, cond, List, [], ◌∷◌, ◌++◌, map, filter, Option, None, Some, refl, sym, ap, subst, ◌∙◌, arith}
+use Rattle.std.proofs.Common.{◌≡◌, ℕ, ◌<◌, ◌≤◌, Bool, true, false, not, ◌==◌, cond, List, [], ◌∷◌, ◌++◌, map, filter, Option, None, Some, refl, sym, ap, subst, ◌∙◌, arith}
 use Rattle.std.specs.List.{AllByRecursion}
 use Rattle.std.specs.Prelude.{if◌then◌else◌}
 use Rattle.std.proofs.lemmas.Bool.{eqb-true}
@@ -12,7 +12,7 @@ use Rattle.plain_types.specs.declared.change.Change.TheVariants as change
 use Rattle.plain_types.specs.declared.entry.Entry.{Entry}
 use Rattle.plain_types.specs.declared.entry.What.TheVariants as what
 use Rattle.plain_tree.specs.State.{State, Inode, Handle, same_ino, lookup, kind_in, next_ino, new_directory}
-use Rattle.plain_tree.specs.Change.{make, is_refused, is_removable, is_directory, names_one, open_of, with_bytes, new_file, without}
+use Rattle.plain_tree.specs.Change.{make, is_removable, is_directory, names_one, open_of, with_bytes, new_file, without}
 use Rattle.plain_journal.specs.Entries.{change_in, with_change, state_after}
 use Rattle.plain_journal.specs.Legal.{is_legal, is_journal, is_made_by, fits}
 use Rattle.plain_journal.specs.Table.{is_collected}

@@ -1,6 +1,6 @@
 -- What is known of the files that a journal made, and so the conditions of the calls.
-use Rattle.std.proofs.Common.{◌≡◌, ℕ, ◌+◌, ◌<◌, Bool, true, false, not, ◌&&◌, ◌||◌, ◌==◌, cond, List, [], ◌∷◌, ◌++◌, map, filter, Option, None, Some, IsSome, is_some, ◌⊎◌, inl, inr, ⊎_elim, refl, sym, ap, subst, ◌∙◌, arith}
-use Rattle.std.specs.List.{AllByRecursion, list_any}
+use Rattle.std.proofs.Common.{◌≡◌, ℕ, ◌<◌, Bool, true, false, not, ◌||◌, ◌==◌, List, [], ◌∷◌, ◌++◌, map, filter, Option, None, Some, IsSome, is_some, ◌⊎◌, inl, inr, ⊎_elim, refl, sym, ap, subst, ◌∙◌, arith}
+use Rattle.std.specs.List.{list_any}
 use Rattle.std.specs.Map.{lookup}
 use Rattle.std.specs.Ordering.{nat_cmp}
 use Rattle.std.specs.BTreeMap.{is_at}
@@ -23,7 +23,7 @@ use Rattle.journal_laws.proofs.Named.{count, one_if}
 use Rattle.journal_laws.proofs.Steps.{both_true, last_legal, made_by_legal}
 use Rattle.journal_realms.proofs.Trees.{tied_after}
 use Rattle.file_uses.specs.declared.files.FileUse.{FileUse}
-use Rattle.file_uses.specs.Uses.{Uses, use_of, names_of, names_in, is_dead, dead_of, ino_of}
+use Rattle.file_uses.specs.Uses.{use_of, names_of, names_in, is_dead, dead_of, ino_of}
 use Rattle.file_uses.proofs.Deaths.{picked, before, picked_first}
 use Rattle.journal_uses.specs.Stands.{is_regular, use_in, uses_in, uses_after}
 use Rattle.journal_uses.proofs.Dead.{dead_same}

@@ -1,17 +1,17 @@
 -- Inodes are numbered as they are made, and only what was made is dropped.
-use Rattle.std.proofs.Common.{◌≡◌, ℕ, ◌+◌, ◌-◌, ◌<◌, ◌≤◌, Bool, true, false, not, ◌==◌, ◌||◌, cond, List, [], ◌∷◌, ◌++◌, length, map, filter, Option, None, Some, refl, sym, ap, subst, ◌∙◌, arith, length-append}
+use Rattle.std.proofs.Common.{◌≡◌, ℕ, ◌+◌, ◌-◌, ◌<◌, ◌≤◌, Bool, true, false, not, ◌||◌, List, [], ◌∷◌, ◌++◌, length, map, filter, Option, None, Some, refl, sym, ap, subst, ◌∙◌, arith, length-append}
 use Rattle.std.specs.List.{AllByRecursion, list_any}
 use Rattle.std.proofs.lemmas.Bool.{eqb-true}
 use Rattle.std.proofs.lemmas.List.{length-map}
 use Rattle.snap_ids.specs.declared.id.Ino.{Ino}
-use Rattle.snap_ids.specs.declared.id.TheConstants.{ROOT, FIRST_INO}
+use Rattle.snap_ids.specs.declared.id.TheConstants.{FIRST_INO}
 use Rattle.plain_types.specs.declared.change.Change.{Change}
 use Rattle.plain_types.specs.declared.change.Change.TheVariants as change
 use Rattle.plain_types.specs.declared.entry.Entry.{Entry}
 use Rattle.plain_types.specs.declared.entry.What.{What}
 use Rattle.plain_types.specs.declared.entry.What.TheVariants as what
 use Rattle.plain_tree.specs.State.{State, Inode, Handle, same_ino, next_ino, new_directory}
-use Rattle.plain_tree.specs.Change.{make, is_refused, open_of, with_bytes, with_mode, new_file}
+use Rattle.plain_tree.specs.Change.{make, open_of, with_bytes, new_file}
 use Rattle.plain_journal.specs.Entries.{change_in, with_change, state_after}
 use Rattle.plain_journal.specs.Legal.{is_legal, is_journal, is_made_by, fits}
 use Rattle.plain_journal.specs.Table.{collects, is_collected, dead, is_dead}
