@@ -1,5 +1,5 @@
 -- What a name less, and another name, make of the files in use.
-use Rattle.std.proofs.Common.{◌≡◌, ℕ, ◌+◌, ◌-◌, ◌<◌, Bool, true, false, not, ◌==◌, cond, List, [], ◌∷◌, ◌++◌, length, map, filter, Option, None, Some, refl, sym, ap, ◌∙◌, arith}
+use Rattle.std.proofs.Common.{◌≡◌, ℕ, ◌+◌, ◌-◌, Bool, true, false, not, ◌==◌, cond, List, [], ◌∷◌, ◌++◌, length, map, filter, Option, None, Some, refl, sym, ap, ◌∙◌, arith}
 use Rattle.std.specs.Prelude.{if◌then◌else◌, bytes_eq}
 use Rattle.std.proofs.lemmas.Bool.Decides.{nat_tests}
 use Rattle.std.specs.Cmp.Lexicographic.{bytes_decides}
@@ -7,7 +7,7 @@ use Rattle.snap_ids.specs.declared.id.Ino.{Ino}
 use Rattle.plain_types.specs.declared.change.Change.TheVariants as change
 use Rattle.plain_types.specs.declared.entry.Entry as journal
 use Rattle.plain_types.specs.declared.entry.What.TheVariants as what
-use Rattle.plain_tree.specs.State.{State, Entry, Inode, same_ino, add, lookup, is_at}
+use Rattle.plain_tree.specs.State.{State, Entry, Inode, same_ino, lookup, is_at}
 use Rattle.plain_tree.specs.Walk.{names_of}
 use Rattle.plain_tree.specs.Change.{entry, make, without, renamed}
 use Rattle.plain_journal.specs.Entries.{state_after}
@@ -71,7 +71,7 @@ module _ (state : State) (collected : Ino → Bool) (once : IsOnce state.entries
     abbrev less : State
     less = record state { entries = without dir name state.entries }
 
-    exact : (x : Ino) → count state.entries x ≡ one_if (same_ino ino x) + count (without dir name state.entries) x
+    pub exact : (x : Ino) → count state.entries x ≡ one_if (same_ino ino x) + count (without dir name state.entries) x
     exact x = count_exact dir name state.entries x once ∙ ap (λ (o : Option Ino). named o x + count (without dir name state.entries) x) found
 
     fewer : (b : Bool) (inode : Inode) → (inode.ino.0 == ino.0) ≡ b → use_in less collected inode ≡ cond b (inode.ino.0, one_less (use_in state collected inode).1) (use_in state collected inode)

@@ -5,14 +5,13 @@ use Rattle.snap_ids.specs.declared.values.Kind.{Kind}
 use Rattle.snap_ids.specs.declared.values.Kind.TheVariants.{Dir, File}
 use Rattle.plain_tree.specs.State.{State, Inode, Entry}
 use Rattle.plain_tree.specs.Walk.{names_of}
-use Rattle.plain_journal.specs.Entries.{state_after}
-use Rattle.plain_journal.specs.Table.{is_collected, is_unused, dead}
+use Rattle.plain_journal.specs.Table.{is_unused}
 use Rattle.plain_journal.specs.Table.{is_dead as is_dead_inode}
 use Rattle.file_uses.specs.declared.files.FileUse.{FileUse}
 use Rattle.file_uses.specs.Handles.{is_open}
-use Rattle.file_uses.specs.Uses.{is_dead, dead_of}
+use Rattle.file_uses.specs.Uses.{is_dead}
 use Rattle.file_uses.proofs.Deaths.{picked, before, picked_first}
-use Rattle.journal_uses.specs.Stands.{is_regular, use_in, uses_after}
+use Rattle.journal_uses.specs.Stands.{is_regular, use_in}
 
 suc_off : (n : ℕ) → (suc n == 0) ≡ false
 suc_off n = grind arith

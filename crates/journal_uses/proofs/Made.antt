@@ -1,5 +1,5 @@
 -- What a new file and a new directory make of the files in use.
-use Rattle.std.proofs.Common.{◌≡◌, ℕ, ◌+◌, ◌<◌, Bool, true, false, ◌==◌, cond, nat_lt, List, [], ◌∷◌, ◌++◌, map, filter, refl, sym, ap, subst, ◌∙◌, arith}
+use Rattle.std.proofs.Common.{◌≡◌, ℕ, ◌<◌, Bool, true, false, nat_lt, List, [], ◌∷◌, ◌++◌, map, filter, refl, sym, ap, subst, ◌∙◌, arith}
 use Rattle.std.proofs.lemmas.Bool.Decides.{nat_tests}
 use Rattle.std.proofs.lemmas.Bool.{eqb-true}
 use Rattle.snap_ids.specs.declared.id.Ino.{Ino}
@@ -11,7 +11,7 @@ use Rattle.plain_types.specs.declared.entry.What.TheVariants as what
 use Rattle.plain_tree.specs.State.{State, Inode, same_ino, add, next_ino, new_directory}
 use Rattle.plain_tree.specs.Change.{entry, make, new_file}
 use Rattle.plain_journal.specs.Entries.{change_in, state_after}
-use Rattle.plain_journal.specs.Legal.{is_legal, is_journal, is_made_by, fits, legal_after}
+use Rattle.plain_journal.specs.Legal.{is_journal, is_made_by, fits}
 use Rattle.plain_journal.specs.Table.{is_collected}
 use Rattle.journal_laws.proofs.Named.{count, one_if, count_add}
 use Rattle.journal_laws.proofs.Below.{unnamed}

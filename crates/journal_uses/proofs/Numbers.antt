@@ -1,17 +1,17 @@
 -- Inodes are numbered as they are made, and only what was made is dropped.
-use Rattle.std.proofs.Common.{◌≡◌, ℕ, ◌+◌, ◌-◌, ◌<◌, ◌≤◌, Bool, true, false, not, ◌==◌, ◌||◌, cond, List, [], ◌∷◌, ◌++◌, length, map, filter, Option, None, Some, refl, sym, ap, subst, ◌∙◌, arith, length-append}
+use Rattle.std.proofs.Common.{◌≡◌, ℕ, ◌+◌, ◌-◌, ◌<◌, ◌≤◌, Bool, true, false, not, ◌||◌, List, [], ◌∷◌, ◌++◌, length, map, filter, Option, None, Some, refl, sym, ap, subst, ◌∙◌, arith, length-append}
 use Rattle.std.specs.List.{AllByRecursion, list_any}
 use Rattle.std.proofs.lemmas.Bool.{eqb-true}
 use Rattle.std.proofs.lemmas.List.{length-map}
 use Rattle.snap_ids.specs.declared.id.Ino.{Ino}
-use Rattle.snap_ids.specs.declared.id.TheConstants.{ROOT, FIRST_INO}
+use Rattle.snap_ids.specs.declared.id.TheConstants.{FIRST_INO}
 use Rattle.plain_types.specs.declared.change.Change.{Change}
 use Rattle.plain_types.specs.declared.change.Change.TheVariants as change
 use Rattle.plain_types.specs.declared.entry.Entry.{Entry}
 use Rattle.plain_types.specs.declared.entry.What.{What}
 use Rattle.plain_types.specs.declared.entry.What.TheVariants as what
 use Rattle.plain_tree.specs.State.{State, Inode, Handle, same_ino, next_ino, new_directory}
-use Rattle.plain_tree.specs.Change.{make, is_refused, open_of, with_bytes, with_mode, new_file}
+use Rattle.plain_tree.specs.Change.{make, open_of, with_bytes, new_file}
 use Rattle.plain_journal.specs.Entries.{change_in, with_change, state_after}
 use Rattle.plain_journal.specs.Legal.{is_legal, is_journal, is_made_by, fits}
 use Rattle.plain_journal.specs.Table.{collects, is_collected, dead, is_dead}
@@ -172,7 +172,7 @@ either : (a b : Bool) (m n : ℕ) (x : ℕ) → m ≤ n → (a || b) ≡ true �
 either true b m n x upto any left right = let less : x < m = left refl in omega arith
 either false b m n x upto any left right = let less : x < m = right any in omega arith
 
-orderly_more : (entries : List Entry) (e : Entry) → IsOrderly entries → is_legal entries e ≡ true → IsOrderly (entries ++ e ∷ [])
+pub orderly_more : (entries : List Entry) (e : Entry) → IsOrderly entries → is_legal entries e ≡ true → IsOrderly (entries ++ e ∷ [])
 orderly_more entries e all legal =
     let state = state_after entries in
     let both = numbered_more entries e (change_in e.what) refl all legal in
@@ -185,6 +185,9 @@ orderly_more entries e all legal =
       collected = λ x is. either (is_collected entries x) (collects x e.what) (next_ino state).0 (next_ino (state_after (entries ++ e ∷ []))).0 x.0 under.grown (sym (any_more (λ (f : Entry). collects x f.what) entries e) ∙ is) (all.collected x) (λ drops. drops_made entries x e.what all.under drops l.1);
     }
 
+pub first_orderly : IsOrderly []
+first_orderly = record { numbered = record { some = omega arith; below = tt }; under = (omega arith, tt); collected = λ x is. cc }
+
 -- after each journal
 pub orderly : (entries : List Entry) → is_journal entries ≡ true → IsOrderly entries
-orderly entries legal = of_journals IsOrderly (record { numbered = record { some = omega arith; below = tt }; under = (omega arith, tt); collected = λ x is. cc }) (λ done e all fine. orderly_more done e all fine) entries legal
+orderly entries legal = of_journals IsOrderly first_orderly (λ done e all fine. orderly_more done e all fine) entries legal
