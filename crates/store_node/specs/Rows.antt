@@ -1,8 +1,9 @@
 -- The store as a node.
-use Rattle.std.specs.Prelude.{◌≡◌, ℕ, ◌+◌, List, [], Option, None, Some}
+use Rattle.std.specs.Prelude.{◌≡◌, ℕ, ◌+◌, Bool, true, false, List, [], Option, None, Some}
 use Rattle.plain_types.specs.declared.history.Done.{Done}
 use Rattle.plain_types.specs.declared.history.Sent.{Sent}
 use Rattle.plain_types.specs.declared.history.Step.{Step}
+use Rattle.plain_types.specs.declared.history.Step.TheVariants.{StoreTakes}
 use Rattle.plain_types.specs.declared.message.Message.{Message}
 use Rattle.plain_types.specs.declared.message.ToStore.{ToStore}
 use Rattle.object_clones.specs.Store.{Shown}
@@ -35,6 +36,11 @@ Does (Some row) done object new = DoesRow row done object new
 abbrev pub IsStoreRow : Option Shown → Step → Option Message → Done → Option Shown → Type 0
 IsStoreRow old step taken done new = (object : ℕ) (log : List ToStore) → Stands old object log
     → Does (store_row object log step taken) done object new
+
+-- the store makes this kind of step alone
+abbrev pub is_store_step : Step → Bool
+is_store_step (StoreTakes n) = true
+is_store_step step = false
 
 -- the store has the number after the last client's, and stands for some messages
 pub record IsStore (core : Option Shown) (node clients : ℕ) : Type 0 where

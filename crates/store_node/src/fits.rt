@@ -1,6 +1,8 @@
 // Which messages the store can carry out at all.
 ghost use Rattle.std.specs.Prelude.{◌≡◌, ◌+◌, ℕ, length};
 ghost use Rattle.std.specs.List.{list_all};
+ghost use Rattle.node_core.specs.Steps.{is_order};
+ghost use Rattle.plain_types.specs.declared.message.Message.TheVariants as message;
 ghost use Rattle.step_table.specs.Messages.{is_id, is_size, context_fits, to_store_fits};
 
 use plain_types::ToStore;
@@ -71,4 +73,11 @@ pub(crate) fn fits(order: &ToStore) -> bool
         ToStore::ListClones { .. } => true,
         ToStore::Purge(id) => is_id(*id),
     }
+}
+
+/// Whether a message is one that the server sends.
+pub(crate) fn is_order(order: &ToStore) -> bool
+    ensures { result ≡ is_order (message.ToStore order.now) }
+{
+    matches!(order, ToStore::Purge(_) | ToStore::Delete { .. })
 }

@@ -2,6 +2,7 @@
 #![tactic(auto)]
 
 mod fits;
+mod node;
 mod serve;
 mod store;
 

@@ -19,7 +19,7 @@ use std::marker::Model;
 #[derive(Drop)]
 pub struct Store {
     alloc: Global,
-    objects: Option<ObjectStore>,
+    pub(crate) objects: Option<ObjectStore>,
 }
 
 impl Model for Store {

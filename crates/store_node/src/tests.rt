@@ -1,6 +1,7 @@
 // Each kind of message once, with answers by hand.
 use crate::Store;
-use plain_types::{Done, FromStore, Message, ToServer, ToStore};
+use node_core::{NodeCore, NodeError};
+use plain_types::{Done, FromStore, Message, Step, ToServer, ToStore};
 use snap_ids::{Bytes, CloneList, Ino, ListOf, SnapContext, SnapId};
 use std::alloc::Global;
 use std::process::Abort;
@@ -237,4 +238,34 @@ fn what_a_node_does_not_send_is_dropped(rt: HostRuntime) -> Result<(), Fail> {
     };
     takes(&rt, alloc, s, 1, delete, "")?;
     takes(&rt, alloc, s, 1, list_clones(0), "to 1: clones 8 head 1")
+}
+
+// Whether a node answers that a step isn't enabled, or that what it is handed doesn't fit.
+fn refuses<N: NodeCore>(node: &mut N, step: &Step, taken: Option<Message>) -> bool {
+    let refused = node.act(step, taken);
+    matches!(refused, Err(NodeError::NotEnabled))
+}
+
+#[test]
+fn a_store_as_a_node(rt: HostRuntime) -> Result<(), Fail> {
+    let alloc = rt.alloc();
+    let s = &mut Store::new(alloc, 16);
+    assert!(rt; s.enabled(&Step::StoreTakes(1)));
+    assert!(rt; !s.enabled(&Step::Tend));
+    let purge = Message::ToStore(ToStore::Purge(SnapId(2)));
+    assert!(rt; refuses(s, &Step::StoreTakes(1), Some(purge)));
+    let read = Message::ToStore(read_head(1));
+    assert!(rt; refuses(s, &Step::StoreTakes(0), Some(read)));
+    let report = Message::ToServer(ToServer::Purged(SnapId(2)));
+    assert!(rt; refuses(s, &Step::StoreTakes(0), Some(report)));
+    assert!(rt; refuses(s, &Step::StoreTakes(1), None));
+    assert!(rt; refuses(s, &Step::Tend, None));
+    let purge = Message::ToStore(ToStore::Purge(SnapId(2)));
+    let done = s.act(&Step::StoreTakes(0), Some(purge))?;
+    assert!(rt; matches!(&done.step, Step::StoreTakes(0)));
+    let text = printed(alloc, &done)?;
+    assert_eq!(rt; text.as_str(), "to 0: purged 2");
+    assert_eq!(rt; s.buffered().ever, 0);
+    assert_eq!(rt; s.buffered().now, 0);
+    Ok(())
 }
