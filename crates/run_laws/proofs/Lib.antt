@@ -35,6 +35,7 @@ mod Rises
 mod Ruled
 mod Sending
 mod Serving
+mod Shares
 mod Stamped
 mod Strangers
 mod Taking
