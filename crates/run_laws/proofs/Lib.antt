@@ -36,6 +36,7 @@ mod Ruled
 mod Sending
 mod Serving
 mod Shares
+mod Sharing
 mod Stamped
 mod Strangers
 mod Taking
