@@ -9,6 +9,7 @@ mod Delivered
 mod Determined
 mod Effects
 mod Entered
+mod Files
 mod Fitting
 mod Gives
 mod Growing
