@@ -1,13 +1,13 @@
 -- What happens to the list of held files, and in which mode a file is held after it.
 use Rattle.std.proofs.Common.{◌≡◌, ◌≤◌, ℕ, List, [], ◌∷◌, Bool, true, false, true≢false, cond, Option, None, Some, refl, sym, ap, ◌∙◌, arith}
 use Rattle.std.proofs.lemmas.Bool.Decides.{nat_tests}
-use Rattle.std.specs.Prelude.{◌==◌, fold, is_some}
+use Rattle.std.specs.Prelude.{◌==◌, ◌||◌, fold, is_some}
 use Rattle.snap_ids.specs.declared.id.Ino.{Ino}
 use Rattle.snap_ids.specs.declared.id.SnapId.{SnapId}
 use Rattle.snap_ids.specs.declared.values.Mode.{Mode}
 use Rattle.snap_ids.specs.declared.values.Mode.TheVariants.{Read, Write}
 use Rattle.plain_types.specs.declared.message.FlushMsg.{FlushMsg}
-use Rattle.held_files.specs.Files.{HeldFile, HeldFiles, is_ino, file_of, with_file, without, held_newly, held_again, hold, is_held, is_writer, settled_to}
+use Rattle.held_files.specs.Files.{HeldFile, HeldFiles, is_ino, file_of, with_file, without, held_newly, held_again, hold, is_held, is_writer, is_write, may_write, settled_to}
 use Rattle.step_table.specs.ClientTakes.{settled_by}
 use Rattle.run_laws.proofs.Shares.{rank, rank_in, has}
 
@@ -111,3 +111,115 @@ has_hold x ino mode size settled (f ∷ files) = by_test (is_ino ino f.0) refl (
     by_test : (b : Bool) → is_ino ino f.0 ≡ b → has x (hold ino mode size settled files) ≡ cond (is_ino x ino) (rank mode) (has x files) → has x (cond b ((f.0, held_again mode size settled f.1) ∷ files) (f ∷ hold ino mode size settled files)) ≡ cond (is_ino x ino) (rank mode) (has x (f ∷ files))
     by_test true is rest = same (is_ino x f.0) (is_ino x ino) refl refl (sym (ino_same ino f.0 x is))
     by_test false is rest = other (is_ino x f.0) (is_ino x ino) (not_it is) rest
+
+-- no file stands twice after it
+held_with : (x ino : Ino) (change : HeldFile → HeldFile) (files : HeldFiles) → is_held x (with_file ino change files) ≡ is_held x files
+held_with x ino change [] = refl
+held_with x ino change (f ∷ files) = by_test (is_ino ino f.0) (held_with x ino change files)
+  where
+    here : (q : Bool) → is_some (cond q (Some (change f.1)) (file_of x files)) ≡ is_some (cond q (Some f.1) (file_of x files))
+    here true = refl
+    here false = refl
+
+    there : (q : Bool) → is_held x (with_file ino change files) ≡ is_held x files → is_some (cond q (Some f.1) (file_of x (with_file ino change files))) ≡ is_some (cond q (Some f.1) (file_of x files))
+    there true rest = refl
+    there false rest = rest
+
+    by_test : (b : Bool) → is_held x (with_file ino change files) ≡ is_held x files → is_held x (cond b ((f.0, change f.1) ∷ files) (f ∷ with_file ino change files)) ≡ is_held x (f ∷ files)
+    by_test true rest = here (is_ino x f.0)
+    by_test false rest = there (is_ino x f.0) rest
+
+pub distinct_with : (ino : Ino) (change : HeldFile → HeldFile) (files : HeldFiles) → Distinct files → Distinct (with_file ino change files)
+distinct_with ino change [] once = tt
+distinct_with ino change (f ∷ files) once = by_test (is_ino ino f.0) (distinct_with ino change files once.1)
+  where
+    by_test : (b : Bool) → Distinct (with_file ino change files) → Distinct (cond b ((f.0, change f.1) ∷ files) (f ∷ with_file ino change files))
+    by_test true rest = once
+    by_test false rest = (held_with f.0 ino change files ∙ once.0, rest)
+
+pub distinct_settled : (flushes : List FlushMsg) (files : HeldFiles) → Distinct files → Distinct (fold settled_by files flushes)
+distinct_settled [] files once = once
+distinct_settled (f ∷ flushes) files once = distinct_settled flushes (settled_by files f) (by_test f.release)
+  where
+    by_test : (b : Bool) → Distinct (cond b files (with_file f.ino (settled_to f.upto) files))
+    by_test true = once
+    by_test false = distinct_with f.ino (settled_to f.upto) files once
+
+split_none : (x : Ino) (f : Ino × HeldFile) (files : HeldFiles) → is_held x (f ∷ files) ≡ false → (is_ino x f.0 ≡ false) × (is_held x files ≡ false)
+split_none x f files none = by_test (is_ino x f.0) refl none
+  where
+    by_test : (q : Bool) → is_ino x f.0 ≡ q → is_some (cond q (Some f.1) (file_of x files)) ≡ false → (is_ino x f.0 ≡ false) × (is_held x files ≡ false)
+    by_test true is none = absurd (true≢false none)
+    by_test false is none = (is, none)
+
+held_without : (x ino : Ino) (files : HeldFiles) → is_held x files ≡ false → is_held x (without ino files) ≡ false
+held_without x ino [] none = refl
+held_without x ino (f ∷ files) none = let parts = split_none x f files none in by_test (is_ino ino f.0) parts.0 parts.1 (held_without x ino files parts.1)
+  where
+    by_test : (b : Bool) → is_ino x f.0 ≡ false → is_held x files ≡ false → is_held x (without ino files) ≡ false → is_held x (cond b files (f ∷ without ino files)) ≡ false
+    by_test true isnt none rest = none
+    by_test false isnt none rest = rw isnt rest
+
+pub distinct_without : (ino : Ino) (files : HeldFiles) → Distinct files → Distinct (without ino files)
+distinct_without ino [] once = tt
+distinct_without ino (f ∷ files) once = by_test (is_ino ino f.0) (distinct_without ino files once.1)
+  where
+    by_test : (b : Bool) → Distinct (without ino files) → Distinct (cond b files (f ∷ without ino files))
+    by_test true rest = once.1
+    by_test false rest = (held_without f.0 ino files once.0, rest)
+
+held_hold : (x ino : Ino) (mode : Mode) (size : ℕ) (settled : SnapId) (files : HeldFiles) → is_ino x ino ≡ false → is_held x files ≡ false → is_held x (hold ino mode size settled files) ≡ false
+held_hold x ino mode size settled [] other none = rw other refl
+held_hold x ino mode size settled (f ∷ files) other none = let parts = split_none x f files none in by_test (is_ino ino f.0) parts.0 parts.1 (held_hold x ino mode size settled files other parts.1)
+  where
+    by_test : (b : Bool) → is_ino x f.0 ≡ false → is_held x files ≡ false → is_held x (hold ino mode size settled files) ≡ false → is_held x (cond b ((f.0, held_again mode size settled f.1) ∷ files) (f ∷ hold ino mode size settled files)) ≡ false
+    by_test true isnt none rest = rw isnt none
+    by_test false isnt none rest = rw isnt rest
+
+pub distinct_hold : (ino : Ino) (mode : Mode) (size : ℕ) (settled : SnapId) (files : HeldFiles) → Distinct files → Distinct (hold ino mode size settled files)
+distinct_hold ino mode size settled [] once = (refl, tt)
+distinct_hold ino mode size settled (f ∷ files) once = by_test (is_ino ino f.0) refl (distinct_hold ino mode size settled files once.1)
+  where
+    other : is_ino ino f.0 ≡ false → is_ino f.0 ino ≡ false
+    other isnt = grind (arith, nat_tests, isnt)
+
+    by_test : (b : Bool) → is_ino ino f.0 ≡ b → Distinct (hold ino mode size settled files) → Distinct (cond b ((f.0, held_again mode size settled f.1) ∷ files) (f ∷ hold ino mode size settled files))
+    by_test true is rest = once
+    by_test false is rest = (held_hold f.0 ino mode size settled files (other is) once.0, rest)
+
+-- what the mode says
+pub has_writer : (ino : Ino) (files : HeldFiles) → is_writer ino files ≡ true → has ino files ≡ 2
+has_writer ino files is = by_file (file_of ino files) is
+  where
+    by_mode : (m : Mode) → is_write m ≡ true → rank m ≡ 2
+    by_mode Write is = refl
+    by_mode Read is = absurd (true≢false (sym is))
+
+    by_file : (o : Option HeldFile) → may_write o ≡ true → rank_in o ≡ 2
+    by_file None is = absurd (true≢false (sym is))
+    by_file (Some file) is = by_mode file.mode is
+
+pub has_reader : (ino : Ino) (files : HeldFiles) → is_writer ino files ≡ false → has ino files ≤ 1
+has_reader ino files is = by_file (file_of ino files) is
+  where
+    by_mode : (m : Mode) → is_write m ≡ false → rank m ≤ 1
+    by_mode Write is = absurd (true≢false is)
+    by_mode Read is = omega arith
+
+    by_file : (o : Option HeldFile) → may_write o ≡ false → rank_in o ≤ 1
+    by_file None is = omega arith
+    by_file (Some file) is = by_mode file.mode is
+
+pub not_held : (ino : Ino) (files : HeldFiles) → is_held ino files ≡ false → has ino files ≡ 0
+not_held ino files none = none_held ino files none
+
+pub held_not : (ino : Ino) (files : HeldFiles) → has ino files ≡ 0 → is_held ino files ≡ false
+held_not ino files none = by_file (file_of ino files) none
+  where
+    by_mode : (m : Mode) → rank m ≡ 0 → true ≡ false
+    by_mode Read is = absurd (omega (arith, is))
+    by_mode Write is = absurd (omega (arith, is))
+
+    by_file : (o : Option HeldFile) → rank_in o ≡ 0 → is_some o ≡ false
+    by_file None is = refl
+    by_file (Some file) is = by_mode file.mode is
