@@ -20,6 +20,7 @@ mod Kept
 mod Knowing
 mod Known
 mod Lasting
+mod Lending
 mod Link
 mod Linked
 mod Mail
