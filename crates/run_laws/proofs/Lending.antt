@@ -21,7 +21,7 @@ use Rattle.plain_tree.specs.State.{Handle}
 use Rattle.plain_tree.specs.Line.{request_of, data_change}
 use Rattle.held_files.specs.declared.due.Due.{Due}
 use Rattle.held_files.specs.declared.due.Due.TheVariants as due
-use Rattle.held_files.specs.Files.{HeldFile, HeldFiles, Item, OfPiece, OfMark, claims, is_ino, is_writer, is_held, is_empty, with_piece, item_sent, first_sent, stored, without, file_of}
+use Rattle.held_files.specs.Files.{HeldFile, HeldFiles, Item, OfPiece, OfMark, claims, is_ino, is_writer, is_held, is_empty, with_piece, item_sent, first_sent, stored, hold, without, file_of}
 use Rattle.held_files.specs.Due.{first_due, due as due_item, due_of, or_else, given_back, is_read, sent}
 use Rattle.step_table.specs.Row.{Row}
 use Rattle.step_table.specs.ClientState.{Client, Under, Idle, Open, AtStore, Edit, edit_of, context_in, connects, open_request, sent_again, stays}
@@ -39,7 +39,7 @@ use Rattle.plain_tree.specs.History.{stamp_of}
 use Rattle.step_table.specs.Messages.{to_client_fits, from_store_fits, context_by}
 use Rattle.step_table.specs.ClientTakes.{renewed, updated, acked, goes_on, granted, asks_for, take_grant, wants_bytes, with_found, found, take_answer, takes_answer, take_reply, may_take, having_heard, take_own, on_told, is_key, key_of, take_read, take_stored, on_stored}
 use Rattle.step_table.specs.World.{to_server as for_server}
-use Rattle.run_laws.proofs.Files.{Distinct, has_with, distinct_with, distinct_without, has_reader, not_held, held_not, file_same}
+use Rattle.run_laws.proofs.Files.{Distinct, has_with, has_hold, distinct_with, distinct_without, distinct_hold, has_reader, not_held, held_not, file_same}
 use Rattle.run_laws.proofs.Shares.{rank, rank_in, has, gives}
 use Rattle.run_laws.proofs.Sharing.{CapFree, gone_in, is_gone}
 
@@ -309,3 +309,41 @@ stored_closes c said = closes_if c nothing (from_store_fits said) (take_stored c
     by_said (Got key bytes) = read_closes c (Got key bytes) c.under
     by_said (NotThere key) = read_closes c (NotThere key) c.under
     by_said (CloneListIs key list) = read_closes c (CloneListIs key list) c.under
+
+-- a message of the server
+abbrev pub gain_of : Client → ToClient → Ino → ℕ
+gain_of c m x = gives c.conn (gone_in c.under) x m
+
+abbrev pub Taken : Client → (Ino → ℕ) → Row Client → Type 0
+Taken c gain r = Quiet c r ⊎ (Ends c gain r ⊎ AsksNow c r)
+
+taken_if : (c : Client) (gain : Ino → ℕ) (b : Bool) (x y : Row Client) → (b ≡ true → Taken c gain x) → Taken c gain y → Taken c gain (cond b x y)
+taken_if c gain true x y here other = here refl
+taken_if c gain false x y here other = other
+
+-- a file that is held newly
+hold_most : (x ino : Ino) (mode : Mode) (before gain : ℕ) → (is_ino x ino ≡ true → rank mode ≤ gain) → cond (is_ino x ino) (rank mode) before ≤ max before gain
+hold_most x ino mode before gain less = by_test (is_ino x ino) less
+  where
+    by_test : (b : Bool) → (b ≡ true → rank mode ≤ gain) → cond b (rank mode) before ≤ max before gain
+    by_test true less = let one = less refl in omega (arith, one)
+    by_test false less = omega arith
+
+goes_on_ends : (c : Client) (gain : Ino → ℕ) (number : ℕ) (stamp : Stamp) (ino : Ino) (mode : Mode) (size : ℕ) (file : FileTrace) (o : Option Edit) → ((x : Ino) → is_ino x ino ≡ true → rank mode ≤ gain x) → Ends c gain (goes_on (granted c ino mode size stamp.snap file) number ino o)
+goes_on_ends c gain number stamp ino mode size file (Some e) less =
+    let change = with_piece (e.piece (context_in (granted c ino mode size stamp.snap file).contexts ino)) in
+    let files = hold ino mode size stamp.snap c.files in
+    record {
+      conn = refl;
+      under = tt;
+      modes = λ x. let same = has_with x ino change (λ file. refl) files in let held = has_hold x ino mode size stamp.snap c.files in let most = hold_most x ino mode (has x c.files) (gain x) (less x) in omega (arith, same, held, most);
+      once = λ once. distinct_with ino change files (distinct_hold ino mode size stamp.snap c.files once);
+      none = refl;
+    }
+goes_on_ends c gain number stamp ino mode size file None less = record {
+  conn = refl;
+  under = tt;
+  modes = λ x. let held = has_hold x ino mode size stamp.snap c.files in let most = hold_most x ino mode (has x c.files) (gain x) (less x) in omega (arith, held, most);
+  once = λ once. distinct_hold ino mode size stamp.snap c.files once;
+  none = refl;
+}
