@@ -14,7 +14,7 @@ use Rattle.plain_types.specs.declared.message.ToClient.TheVariants.{Reply, Grant
 use Rattle.held_files.specs.Files.{HeldFile, HeldFiles, is_ino, file_of, is_write}
 use Rattle.plain_tree.specs.State.{same_ino}
 use Rattle.step_table.specs.ServerState.{Holder, is_holder}
-use Rattle.step_table.specs.Acts.{raised, recalled, settled}
+use Rattle.step_table.specs.Acts.{raised}
 use Rattle.step_table.specs.Capabilities.{clash, OneWriter}
 use Rattle.run_laws.proofs.Holders.{or_false}
 
@@ -95,6 +95,9 @@ shares_others n ino p (h ∷ holders) keeps = by_test (is_holder n ino h) (p h) 
 pub shares_same : (n : ℕ) (ino : Ino) (f : Holder → Holder) (holders : List Holder) → ((h : Holder) → share n ino (f h) ≡ share n ino h) → shares n ino (map f holders) ≡ shares n ino holders
 shares_same n ino f [] same = refl
 shares_same n ino f (h ∷ holders) same = let one = same h in let rest = shares_same n ino f holders same in omega (arith, one, rest)
+
+pub or_none : (a b : Bool) → a ≡ false → b ≡ false → (a || b) ≡ false
+or_none a b none other = rw (none, other) refl
 
 pub both_true : (a b : Bool) → (a && b) ≡ true → (a ≡ true) × (b ≡ true)
 both_true true b is = (refl, is)

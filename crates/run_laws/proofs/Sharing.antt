@@ -1,7 +1,6 @@
 -- What a client holds is covered by what the server's table says of it.
-use Rattle.std.proofs.Common.{◌≡◌, ◌≤◌, ℕ, ◌+◌, List, [], ◌∷◌, ◌++◌, take, length, Bool, true, false, true≢false, not, cond, filter, Option, None, Some, refl, sym, ap, ◌∙◌, subst, IfSome, arith, ◌⊎◌, inl, inr}
-use Rattle.std.proofs.lemmas.Bool.Decides.{nat_tests}
-use Rattle.std.specs.Prelude.{◌==◌, ◌&&◌, ◌||◌}
+use Rattle.std.proofs.Common.{◌≡◌, ◌≤◌, ℕ, List, [], ◌∷◌, ◌++◌, take, length, Bool, true, false, Option, None, Some, ◌⊎◌}
+use Rattle.std.specs.Prelude.{◌==◌, ◌&&◌}
 use Rattle.std.specs.List.{list_any}
 use Rattle.snap_ids.specs.declared.id.Ino.{Ino}
 use Rattle.snap_ids.specs.declared.values.Mode.{Mode}
@@ -17,8 +16,8 @@ use Rattle.plain_types.specs.declared.request.Request.{Request}
 use Rattle.plain_types.specs.declared.request.Request.TheVariants as request
 use Rattle.plain_journal.specs.Table.{last_flush}
 use Rattle.held_files.specs.Files.{HeldFiles, is_ino}
-use Rattle.step_table.specs.ServerState.{Server, Holder, number_of}
-use Rattle.step_table.specs.ClientState.{Client, Under, Idle, Open, AtStore}
+use Rattle.step_table.specs.ServerState.{number_of}
+use Rattle.step_table.specs.ClientState.{Under, Open}
 use Rattle.run_laws.specs.Links.{View, mail_of}
 use Rattle.run_laws.specs.Requests.{asks}
 use Rattle.run_laws.specs.Stamps.{told_by}
@@ -82,48 +81,58 @@ abbrev pub AllGrants : ℕ → Under → List ToClient → Type 0
 AllGrants conn under [] = Unit {0}
 AllGrants conn under (m ∷ down) = GrantAt conn under m × AllGrants conn under down
 
--- the releases of a file have an entry among these
-abbrev pub Released : ℕ → Ino → List Entry → List FlushMsg → Type 0
-Released n ino entries [] = Unit {0}
-Released n ino entries (f ∷ flushes) = ((f.release && is_ino ino f.ino) ≡ true → f.number ≤ last_flush entries n) × Released n ino entries flushes
+-- the releases of a file are numbered up to this
+abbrev pub Released : Ino → ℕ → List FlushMsg → Type 0
+Released ino last [] = Unit {0}
+Released ino last (f ∷ flushes) = ((f.release && is_ino ino f.ino) ≡ true → f.number ≤ last) × Released ino last flushes
 
 -- where a file is held or given, its releases are entered
-abbrev pub GivesAfter : ℕ → ℕ → List Ino → List FlushMsg → List Entry → ToClient → Type 0
-GivesAfter n conn gone kept entries m = (ino : Ino) → (gives conn gone ino m ≡ 0) ⊎ Released n ino entries kept
+abbrev pub GivesAfter : ℕ → List Ino → List FlushMsg → ℕ → ToClient → Type 0
+GivesAfter conn gone kept last m = (ino : Ino) → (gives conn gone ino m ≡ 0) ⊎ Released ino last kept
 
-abbrev pub DownAfter : ℕ → ℕ → List Ino → List FlushMsg → List Entry → List ToClient → Type 0
-DownAfter n conn gone kept entries [] = Unit {0}
-DownAfter n conn gone kept entries (m ∷ down) = GivesAfter n conn gone kept entries m × DownAfter n conn gone kept entries down
+abbrev pub DownAfter : ℕ → List Ino → List FlushMsg → ℕ → List ToClient → Type 0
+DownAfter conn gone kept last [] = Unit {0}
+DownAfter conn gone kept last (m ∷ down) = GivesAfter conn gone kept last m × DownAfter conn gone kept last down
 
-abbrev pub ToldAfter : ℕ → ℕ → List Ino → List FlushMsg → List Entry → Option ToClient → Type 0
-ToldAfter n conn gone kept entries None = Unit {0}
-ToldAfter n conn gone kept entries (Some m) = GivesAfter n conn gone kept entries m
+abbrev pub ToldAfter : ℕ → List Ino → List FlushMsg → ℕ → Option ToClient → Type 0
+ToldAfter conn gone kept last None = Unit {0}
+ToldAfter conn gone kept last (Some m) = GivesAfter conn gone kept last m
 
 abbrev pub MailAfter : ℕ → ℕ → List Ino → List FlushMsg → List Entry → List (ℕ × Sent) → Type 0
 MailAfter n conn gone kept entries [] = Unit {0}
 MailAfter n conn gone kept entries (m ∷ mail) =
-    ((m.1.to == n) ≡ true → ToldAfter n conn gone kept (take m.0 entries) (told_by m.1.message)) × MailAfter n conn gone kept entries mail
+    (m.0 ≤ length entries) × ((m.1.to == n) ≡ true → ToldAfter conn gone kept (last_flush (take m.0 entries) n) (told_by m.1.message)) × MailAfter n conn gone kept entries mail
 
 -- all that a client has and that is on its way to it, of its connection, is no more than this
 abbrev pub Covered : ℕ → List Ino → HeldFiles → List ToClient → Ino → ℕ → Type 0
 Covered conn gone files down ino most = (has ino files ≤ most) × AllGive conn gone ino most down
 
+-- where the server has a number for the client: each file is covered by its table
+abbrev pub CoverBy : (Ino → ℕ → Type 0) → (Ino → ℕ) → Option ℕ → Type 0
+CoverBy C table None = Unit {0}
+CoverBy C table (Some j) = (ino : Ino) → C ino (table ino)
+
+-- and one that is let go on the way to the server, and is in the table for Read, isn't held and not given
+abbrev pub DroppedBy : (Ino → ℕ → Type 0) → List ToServer → (Ino → ℕ) → Option ℕ → Type 0
+DroppedBy C q table None = Unit {0}
+DroppedBy C q table (Some j) = (ino : Ino) → list_any (is_drop j ino) q ≡ true → table ino ≡ 1 → C ino 0
+
 -- Of one client: `k` is the server's number for it, `table` what the server's table says of its files.
-pub record SharesAt (n conn : ℕ) (files : HeldFiles) (under : Under) (kept : List FlushMsg) (q : List ToServer) (k : Option ℕ) (p : List ToClient) (table : Ino → ℕ) : Type 0 where
-  pub cover : IfSome k (λ j. (ino : Ino) → Covered conn (gone_in under) files p ino (table ino))
-  pub dropped : IfSome k (λ j. (ino : Ino) → list_any (is_drop j ino) q ≡ true → table ino ≡ 1 → Covered conn (gone_in under) files p ino 0)
+pub record SharesAt (conn : ℕ) (files : HeldFiles) (under : Under) (q : List ToServer) (k : Option ℕ) (p : List ToClient) (table : Ino → ℕ) : Type 0 where
+  pub cover : CoverBy (Covered conn (gone_in under) files p) table k
+  pub dropped : DroppedBy (Covered conn (gone_in under) files p) q table k
   pub lets : Lets conn under q
   pub frees : Frees files under
   pub grants : AllGrants conn under p
 
 abbrev pub Sharing : View
 Sharing n c up down s =
-    SharesAt n c.conn c.files c.under c.unacked up (number_of s.current n) (down ++ mail_of n s.mail) (λ ino. shares n ino s.holders)
+    SharesAt c.conn c.files c.under up (number_of s.current n) (down ++ mail_of n s.mail) (λ ino. shares n ino s.holders)
 
--- and its releases
+-- Where a file is held, or given, its releases are durable, or entered when it was given.
 pub record LettingAt (n conn : ℕ) (gone : List Ino) (files : HeldFiles) (kept : List FlushMsg) (down : List ToClient) (entries : List Entry) (durable : ℕ) (mail : List (ℕ × Sent)) : Type 0 where
-  pub held : (ino : Ino) → (has ino files ≡ 0) ⊎ Released n ino (take durable entries) kept
-  pub coming : DownAfter n conn gone kept (take durable entries) down
+  pub held : (ino : Ino) → (has ino files ≡ 0) ⊎ Released ino (last_flush (take durable entries) n) kept
+  pub coming : DownAfter conn gone kept (last_flush (take durable entries) n) down
   pub post : MailAfter n conn gone kept entries mail
 
 abbrev pub Letting : View

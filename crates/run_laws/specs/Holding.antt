@@ -6,7 +6,7 @@ use Rattle.step_table.specs.ClientState.{Client}
 use Rattle.step_table.specs.World.{World, client}
 
 -- Among the files that clients hold: where one client holds a file for Write, no other client holds it at all.
-abbrev pub HeldOnce : World → Type 0
-HeldOnce w =
+abbrev pub OneClientWrites : World → Type 0
+OneClientWrites w =
     (a b : ℕ) (c d : Client) (ino : Ino) → client w.clients a ≡ Some c → client w.clients b ≡ Some d → (a == b) ≡ false
     → is_writer ino c.files ≡ true → is_held ino d.files ≡ false
