@@ -56,8 +56,8 @@ has_settled x (f ∷ flushes) files = has_settled x flushes (settled_by files f)
     by_test false = has_with x f.ino (settled_to f.upto) (λ file. refl) files
 
 -- a file is let go
-none_held : (ino : Ino) (files : HeldFiles) → is_held ino files ≡ false → has ino files ≡ 0
-none_held ino files none = by_file (file_of ino files) none
+pub not_held : (ino : Ino) (files : HeldFiles) → is_held ino files ≡ false → has ino files ≡ 0
+not_held ino files none = by_file (file_of ino files) none
   where
     by_file : (o : Option HeldFile) → is_some o ≡ false → rank_in o ≡ 0
     by_file None is = refl
@@ -68,7 +68,7 @@ has_none ino [] once = refl
 has_none ino (f ∷ files) once = by_test (is_ino ino f.0) refl (has_none ino files once.1)
   where
     by_test : (b : Bool) → is_ino ino f.0 ≡ b → has ino (without ino files) ≡ 0 → has ino (cond b files (f ∷ without ino files)) ≡ 0
-    by_test true is rest = ap rank_in (file_same ino f.0 files is) ∙ none_held f.0 files once.0
+    by_test true is rest = ap rank_in (file_same ino f.0 files is) ∙ not_held f.0 files once.0
     by_test false is rest = rw is rest
 
 pub has_other : (x ino : Ino) (files : HeldFiles) → is_ino x ino ≡ false → has x (without ino files) ≡ has x files
@@ -209,9 +209,6 @@ has_reader ino files is = by_file (file_of ino files) is
     by_file : (o : Option HeldFile) → may_write o ≡ false → rank_in o ≤ 1
     by_file None is = omega arith
     by_file (Some file) is = by_mode file.mode is
-
-pub not_held : (ino : Ino) (files : HeldFiles) → is_held ino files ≡ false → has ino files ≡ 0
-not_held ino files none = none_held ino files none
 
 pub held_not : (ino : Ino) (files : HeldFiles) → has ino files ≡ 0 → is_held ino files ≡ false
 held_not ino files none = by_file (file_of ino files) none

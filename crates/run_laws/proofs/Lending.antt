@@ -411,7 +411,7 @@ answer_taken c gain number text asked let_go stamp (answer.FoundObject ino index
 answer_taken c gain number text asked let_go stamp said same free less = inr (inl (record { conn = refl; under = tt; modes = λ x. omega arith; once = λ once. once; none = refl }))
 
 -- what is asked for isn't held, sent again too
-free_again : (files : HeldFiles) (gone : List Ino) (asked : Request) → CapFree files gone asked → CapFree files [] asked
+pub free_again : (files : HeldFiles) (gone : List Ino) (asked : Request) → CapFree files gone asked → CapFree files [] asked
 free_again files gone (request.Cap file Read) free = (free.0, refl)
 free_again files gone (request.Cap file Write) free = free
 free_again files gone asked free = tt

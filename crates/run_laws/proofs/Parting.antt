@@ -24,10 +24,10 @@ use Rattle.step_table.specs.ClientState.{Client, Under, Idle, Open, AtStore, ope
 use Rattle.step_table.specs.ClientLines.{with_let_go}
 use Rattle.step_table.specs.World.{to_server as for_server}
 use Rattle.run_laws.specs.Links.{Offer, Up, Behind}
-use Rattle.run_laws.specs.Requests.{asks, answers}
+use Rattle.run_laws.specs.Requests.{answers}
 use Rattle.run_laws.proofs.Asked.{asks_append}
 use Rattle.run_laws.proofs.Files.{Distinct, has_none, has_other, file_same}
-use Rattle.run_laws.proofs.Lending.{AllPlain, Quiet, NotOpen, Ends, AsksNow, drop_list, Returns, LetsGo, gone_same}
+use Rattle.run_laws.proofs.Lending.{AllPlain, Quiet, NotOpen, Ends, AsksNow, drop_list, Returns, LetsGo, gone_same, free_again}
 use Rattle.run_laws.proofs.Link.{up_most}
 use Rattle.run_laws.proofs.Shares.{rank, rank_in, has, found_in, gives, AllGive, give_more, or_none}
 use Rattle.run_laws.proofs.Sharing.{gone_in, is_gone, is_release, is_drop, is_cap, AllLet, Lets, CapFree, Frees, IsAsked, GrantAt, AllGrants, Covered, CoverBy, DroppedBy, SharesAt}
@@ -93,12 +93,7 @@ plain_no_drop j ino [] all = refl
 plain_no_drop j ino (Flush conn f ∷ more) all = plain_no_drop j ino more all.1
 plain_no_drop j ino (m ∷ more) all = absurd all.0
 
-plain_no_asks : (more : List ToServer) → AllPlain more → asks more ≡ 0
-plain_no_asks [] all = refl
-plain_no_asks (Flush conn f ∷ more) all = plain_no_asks more all.1
-plain_no_asks (m ∷ more) all = absurd all.0
-
-no_release : (a r i : Bool) → r ≡ false → (a && (r && i)) ≡ false
+pub no_release : (a r i : Bool) → r ≡ false → (a && (r && i)) ≡ false
 no_release true r i none = rw none refl
 no_release false r i none = refl
 
@@ -246,15 +241,10 @@ again_lets o k Idle up m none is = tt
 again_lets o k (AtStore number entry ino head) up m none is = tt
 again_lets o k (Open number tid text asked gone) up m none is = let_more (o.conn + 1) asked [] up (m ∷ []) (connect_let (o.conn + 1) asked [] m none) (old_let o k up asked [] (up_most o k up is) is)
 
-cap_again : (files : HeldFiles) (gone : List Ino) (asked : Request) → CapFree files gone asked → CapFree files [] asked
-cap_again files gone (request.Cap file Read) free = (free.0, refl)
-cap_again files gone (request.Cap file Write) free = free
-cap_again files gone asked free = tt
-
 again_frees : (files : HeldFiles) (under : Under) → Frees files under → Frees files (sent_again under)
 again_frees files Idle frees = tt
 again_frees files (AtStore number entry ino head) frees = tt
-again_frees files (Open number tid text asked gone) frees = (λ ino is. absurd (true≢false (sym is)), cap_again files gone asked frees.1)
+again_frees files (Open number tid text asked gone) frees = (λ ino is. absurd (true≢false (sym is)), free_again files gone asked frees.1)
 
 pub returns_lent : (c : Client) (r : Row Client) (o : Offer) (k : ℕ) (up : List ToServer) (p q : List ToClient) → o.conn ≡ c.conn → Up o k up → Returns c r → Frees c.files c.under → answers (c.conn + 1) q ≡ 0 → Lent c.conn c.files c.under up p r.state (up ++ for_server r.sent) q
 returns_lent c r o k up p q same is back frees none = record {

@@ -24,7 +24,7 @@ use Rattle.run_laws.specs.Stamps.{told_by}
 use Rattle.run_laws.proofs.Files.{Distinct}
 use Rattle.run_laws.proofs.Holds.{Stays, Sends, Takes}
 use Rattle.run_laws.proofs.Lending.{AllPlain, Quiet, Ends, AsksNow, Returns, LetsGo, drop_list}
-use Rattle.run_laws.proofs.Parting.{none_give, gives_gone, let_nothing, less_without, none_without, LetSaid}
+use Rattle.run_laws.proofs.Parting.{no_release, none_give, gives_gone, let_nothing, less_without, none_without, LetSaid}
 use Rattle.run_laws.proofs.Shares.{has, gives, AllGive, or_none}
 use Rattle.run_laws.proofs.Sharing.{gone_in, is_release, Frees, GrantAt, AllGrants, Released, GivesAfter, DownAfter, ToldAfter, MailAfter, LettingAt}
 
@@ -138,10 +138,6 @@ sends_released entries c r (inr f) = λ ino last none all. rw f.unacked (release
 pub takes_released : (entries : List Entry) (c : Client) (m : ToClient) (r : Row Client) → Takes entries c m r → KeepsReleased c r
 takes_released entries c m r (inl stays) = stays_released entries c r stays
 takes_released entries c m r (inr settles) = λ ino last none all. rw settles.unacked (released_filter ino last (λ (f : FlushMsg). not (settles.which f.number)) c.unacked all)
-
-no_release : (a r i : Bool) → r ≡ false → (a && (r && i)) ≡ false
-no_release true r i none = rw none refl
-no_release false r i none = refl
 
 plain_no_release : (j : ℕ) (ino : Ino) (more : List ToServer) → AllPlain more → list_any (is_release j ino) more ≡ false
 plain_no_release j ino [] all = refl

@@ -169,15 +169,6 @@ reader_shares n ino (h ∷ holders) one any = by_test (reader_shares n ino holde
     by_test go true is Write any = let own = beside_own n ino h holders is one.0 in let rest = go any in absurd (omega (arith, own, rest))
     by_test go false is m any = let rest = go any in omega (arith, rest)
 
--- a holder goes
-pub shares_gone : (n : ℕ) (ino : Ino) (holders : List Holder) → shares n ino (filter (λ h. not (is_holder n ino h)) holders) ≡ 0
-shares_gone n ino [] = refl
-shares_gone n ino (h ∷ holders) = by_test (is_holder n ino h) refl (shares_gone n ino holders)
-  where
-    by_test : (b : Bool) → is_holder n ino h ≡ b → shares n ino (filter (λ h. not (is_holder n ino h)) holders) ≡ 0 → shares n ino (cond (not b) (h ∷ filter (λ h. not (is_holder n ino h)) holders) (filter (λ h. not (is_holder n ino h)) holders)) ≡ 0
-    by_test true is rest = rest
-    by_test false is rest = rw is (omega (arith, rest))
-
 -- a holder is raised to Write
 pub shares_raised : (n x : ℕ) (ino file : Ino) (upto : SnapId) (holders : List Holder) → shares n ino holders ≤ shares n ino (map (raised x file upto) holders)
 shares_raised n x ino file upto [] = omega arith
