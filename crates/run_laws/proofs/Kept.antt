@@ -18,7 +18,7 @@ use Rattle.step_table.specs.World.{start}
 use Rattle.run_laws.specs.Moments.{steps_of, world_after}
 use Rattle.run_laws.specs.Tables.{is_prepare, IsOut, EntryFits}
 use Rattle.run_laws.proofs.Acts.{notices_keep}
-use Rattle.run_laws.proofs.Serving.{Keeps, run_serves, no_client_start}
+use Rattle.run_laws.proofs.Serving.{ServerGives, Keeps, run_serves, no_client_start}
 use Rattle.run_laws.proofs.Gives.{KeptByServer, server_gives}
 use Rattle.run_laws.proofs.Holders.{one_append, one_filter, one_map, one_same, raise_harmless}
 use Rattle.run_laws.proofs.Fitting.{TableFits, tables_fit}
@@ -41,7 +41,7 @@ fit_at done [] later e all = subst (λ (l : List Entry). EntryFits l e.what) (sy
 fit_at done (x ∷ before) later e all = subst (λ (l : List Entry). EntryFits l e.what) (append_assoc done (x ∷ []) before) (fit_at (done ++ x ∷ []) before later e all.1)
 
 -- the tables
-abbrev Tables : Server → Type 0
+abbrev pub Tables : Server → Type 0
 Tables s = OneWriter s.holders × AllFit [] s.entries
 
 tell_tables : (s : Server) (x : ℕ) (told : Told) → Tables s → Tables (tell s x told)
@@ -102,8 +102,12 @@ tables_kept = record {
   blind = λ b before r e holds. holds;
 }
 
+-- each row keeps them
+pub tables_gives : ServerGives Tables (Keeps Tables)
+tables_gives = server_gives tables_fit tables_kept
+
 tables_hold : (script : Script) (history : List Event) → Tables (world_after script history).server
-tables_hold script history = run_serves (server_gives tables_fit tables_kept) (start script) (steps_of history) (no_client_start script) (tt, tt)
+tables_hold script history = run_serves tables_gives (start script) (steps_of history) (no_client_start script) (tt, tt)
 
 pub writer_law : (script : Script) (history : List Event) → OneWriter (world_after script history).server.holders
 writer_law script history = (tables_hold script history).0

@@ -53,7 +53,7 @@ use Rattle.run_laws.proofs.Views.{Client's, Server's, KeptByRows, run_keeps}
 grown : (s : Server) (a : Act) → (more : List Entry) × ((act s a).entries ≡ s.entries ++ more)
 grown s a = act_keeps (by_entries (λ entries durable. (more : List Entry) × (entries ≡ s.entries ++ more)) (λ t e so. (so.0 ++ e ∷ [], ap (λ (l : List Entry). l ++ e ∷ []) so.1 ∙ append_assoc s.entries so.0 (e ∷ [])))) s a ([], sym (append-nil s.entries))
 
-grown_all : (list : List Act) (s : Server) → (more : List Entry) × ((acts s list).entries ≡ s.entries ++ more)
+pub grown_all : (list : List Act) (s : Server) → (more : List Entry) × ((acts s list).entries ≡ s.entries ++ more)
 grown_all [] s = ([], sym (append-nil s.entries))
 grown_all (a ∷ list) s =
     let one = grown s a in let rest = grown_all list (act s a) in
@@ -354,11 +354,11 @@ by_acts n c up down = record {
 }
 
 -- the rows of the server
-row_if : (After : Row Server → Type 0) (b : Bool) (x y : Row Server) → (b ≡ true → After x) → After y → After (cond b x y)
+pub row_if : (After : Row Server → Type 0) (b : Bool) (x y : Row Server) → (b ≡ true → After x) → After y → After (cond b x y)
 row_if After true x y here other = here refl
 row_if After false x y here other = other
 
-and_true : (a b : Bool) → (a && b) ≡ true → (a ≡ true) × (b ≡ true)
+pub and_true : (a b : Bool) → (a && b) ≡ true → (a ≡ true) × (b ≡ true)
 and_true true b is = (refl, is)
 and_true false b is = absurd (true≢false (sym is))
 
@@ -373,7 +373,7 @@ hand_caps s a cap = by_test (is_operation s a)
     by_test true = tt
     by_test false = (cap, tt)
 
-take_in_knows : (s : Server) (a : Asked) → CapAt s.entries a.request → Knows s → Knows (take_in s a)
+pub take_in_knows : (s : Server) (a : Asked) → CapAt s.entries a.request → Knows s → Knows (take_in s a)
 take_in_knows s a cap k = places s (hand_for s a) s.held s.deferred s.operation (hand_caps s a cap) k.held k.deferred k.operation k
 
 -- A request is taken, where its acts fit and what else holds reads nothing of the hand.
@@ -387,17 +387,28 @@ ask_row {F} {R} {After} kept to blind s x conn tid asked k =
         let t = take_in s (asked_by x tid asked) in
         row_keeps kept t (treat false t (asked_by x tid asked)) (ruled_fit F to (treat false t (asked_by x tid asked)) t (ruled_treat t false (asked_by x tid asked) cap)) (take_in_knows s (asked_by x tid asked) cap k.0, blind s (hand_for s (asked_by x tid asked)) k.1)
 
-abbrev BroughtCap : List Entry → Option Asked → Type 0
+abbrev pub BroughtCap : List Entry → Option Asked → Type 0
 BroughtCap entries None = Unit {0}
 BroughtCap entries (Some a) = CapAt entries a.request
 
-brought_cap : (s : Server) (o : Option Asked) → knows_brought s o ≡ true → BroughtCap s.entries o
+pub brought_cap : (s : Server) (o : Option Asked) → knows_brought s o ≡ true → BroughtCap s.entries o
 brought_cap s None is = tt
 brought_cap s (Some a) is = knows_cap s a.request is
 
-brought_more : (entries more : List Entry) (o : Option Asked) → BroughtCap entries o → BroughtCap (entries ++ more) o
+pub brought_more : (entries more : List Entry) (o : Option Asked) → BroughtCap entries o → BroughtCap (entries ++ more) o
 brought_more entries more None cap = tt
 brought_more entries more (Some a) cap = cap_more entries more a.request cap
+
+-- a connection has its Welcome
+pub welcome_knows : (x conn : ℕ) (t : Server) → Knows t → Knows (welcome (connected t x conn) x conn)
+welcome_knows x conn t now = record {
+  fits = now.fits;
+  hand = now.hand;
+  held = caps_filter t.entries (λ a. not (of_client x a)) t.held now.held;
+  deferred = caps_filter t.entries (λ a. not (of_client x a)) t.deferred now.deferred;
+  operation = now.operation;
+  mail = mail_end t.entries t.mail _ tt now.mail;
+}
 
 -- A connection is taken, where what else holds does after its Welcome.
 pub connect_row : {F : Server → Act → Type 0} {R : Server → Type 0} {After : Row Server → Type 0} → KeptByActs F (λ t. Knows t × R t) After → ((t : Server) (a : Act) → IsRuled t.entries a → F t a) → ((t : Server) (hand : Option Asked) → R t → R (record t { hand = hand }))
@@ -417,16 +428,6 @@ connect_row {F} {R} {After} kept to blind s x conn said flushes asked k then =
     came : Knows (acts s (come_back s x said flushes))
     came = acts_keep {F = KnownFits} {Q = Knows} one_knows (come_back s x said flushes) s (flushing_fit KnownFits x (flushing_known x) (come_back s x said flushes) s (flushing_back s x said flushes)) k.0
 
-    welcomed : (t : Server) → Knows t → Knows (welcome (connected t x conn) x conn)
-    welcomed t now = record {
-      fits = now.fits;
-      hand = now.hand;
-      held = caps_filter t.entries (λ a. not (of_client x a)) t.held now.held;
-      deferred = caps_filter t.entries (λ a. not (of_client x a)) t.deferred now.deferred;
-      operation = now.operation;
-      mail = mail_end t.entries t.mail _ tt now.mail;
-    }
-
     in_hand : (t : Server) (o : Option Asked) → BroughtCap t.entries o → Knows t × R t → Knows (take_in_brought t o) × R (take_in_brought t o)
     in_hand t None cap now = now
     in_hand t (Some a) cap now = (take_in_knows t a cap now.0, blind t (hand_for t a) now.1)
@@ -440,7 +441,7 @@ connect_row {F} {R} {After} kept to blind s x conn said flushes asked k then =
         let more = grown_all (come_back s x said flushes) s in
         let t = welcome (connected (acts s (come_back s x said flushes)) x conn) x conn in
         let now : BroughtCap t.entries (brought x asked) = subst (λ (l : List Entry). BroughtCap l (brought x asked)) (sym more.1) (brought_more s.entries more.0 (brought x asked) cap) in
-        connect_keeps kept (back s x conn said flushes (brought x asked)) (brought x asked) (treats t (brought x asked) now) (in_hand t (brought x asked) now (welcomed (acts s (come_back s x said flushes)) came, then))
+        connect_keeps kept (back s x conn said flushes (brought x asked)) (brought x asked) (treats t (brought x asked) now) (in_hand t (brought x asked) now (welcome_knows x conn (acts s (come_back s x said flushes)) came, then))
 
 -- what is around a client, as a statement on the server
 abbrev Here : Client → List ToServer → List ToClient → Server → Type 0

@@ -242,7 +242,7 @@ one_in n high kept W down s (SendDelete ino) fit f = send_in n high kept W down 
 one_in n high kept W down s a fit f = f
 
 -- A flush of the client itself is taken: the one behind the last.
-flush_is : (n : ℕ) (f : FlushMsg) → is_flush_of n (record { client = n; number = f.number; what = flush_entry f }) ≡ true
+pub flush_is : (n : ℕ) (f : FlushMsg) → is_flush_of n (record { client = n; number = f.number; what = flush_entry f }) ≡ true
 flush_is n f = rw (by_test f.release, itself) refl
   where
     by_test : (b : Bool) → is_flush (cond b (Release f.ino f.follows f.size) (Settle f.ino f.follows f.upto f.size)) ≡ true

@@ -158,7 +158,7 @@ begin_row n c r up q s begin none nothing = rw begin.conn (record {
       omega (arith, few, sum, e1, e2, e3, e4, e5, e6);
 })
 
-none_open : (n : ℕ) (c : Client) (up : List ToServer) (p : List ToClient) (s : Server) → open_request c.under ≡ None → Now n c up p s → Nothing n c.conn up p s
+pub none_open : (n : ℕ) (c : Client) (up : List ToServer) (p : List ToClient) (s : Server) → open_request c.under ≡ None → Now n c up p s → Nothing n c.conn up p s
 none_open n c up p s none r = record {
   asked = asked_none up (subst (λ (o : Option (ℕ × Request)). AllAsked o up) none r.up);
   hand = of_none n (as_list s.hand) (subst (λ (o : Option (ℕ × Request)). AllOf n o (as_list s.hand)) none r.in_hand);
@@ -169,7 +169,7 @@ none_open n c up p s none r = record {
 }
 
 -- where the link flows no Connect is on the way
-flows_none : (o : Offer) (up : List ToServer) (k : Option ℕ) (p : List ToClient) (link : Link o up k p) → link.base ≡ o.conn → connects up ≡ 0
+pub flows_none : (o : Offer) (up : List ToServer) (k : Option ℕ) (p : List ToClient) (link : Link o up k p) → link.base ≡ o.conn → connects up ≡ 0
 flows_none o up k p link is = let e = up_number o link.base up link.up in omega (arith, e, is)
 
 own_row : (n : ℕ) (c : Client) (up : List ToServer) (down : List ToClient) (s : Server) (r : Row Client) → ActsNow c r → OpenLinked n c up down s → Requested n c up down s → Client's Requested n up down s r
@@ -183,7 +183,7 @@ own_row n c up down s r acts link was = by_kind acts.1
     by_kind (inr (inr renew)) = renew_row n c r up (down ++ mail_of n s.mail) (down ++ mail_of n s.mail) s renew (link_old (offer c) up (number_of s.current n) (down ++ mail_of n s.mail) link.1) (λ b. omega arith) was
 
 -- an answer was the one
-answered_all : (n : ℕ) (c : Client) (up : List ToServer) (m : ToClient) (p : List ToClient) (s : Server) → IsAnswer c m → connects up ≡ 0 → Now n c up (m ∷ p) s → Nothing n c.conn up p s
+pub answered_all : (n : ℕ) (c : Client) (up : List ToServer) (m : ToClient) (p : List ToClient) (s : Server) → IsAnswer c m → connects up ≡ 0 → Now n c up (m ∷ p) s → Nothing n c.conn up p s
 answered_all n c up m p s is none was = record {
   asked = omega (arith, all);
   hand = omega (arith, all);

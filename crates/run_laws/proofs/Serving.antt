@@ -109,7 +109,7 @@ put_none (c ∷ clients) n new alone = by_test (c.0 == 0) refl alone (put_none c
     by_test true is alone go = cc
     by_test false is alone go = go alone
 
-no_client_step : (w : World) (step : Step) → NoClient w → NoClient (after_row w (row w step))
+pub no_client_step : (w : World) (step : Step) → NoClient w → NoClient (after_row w (row w step))
 no_client_step w step alone = by_step step
   where
     Good : Option Made → Type 0

@@ -325,7 +325,7 @@ survives n s k u = record {
 abbrev pub Strange : ℕ → World → Type 0
 Strange n w = client w.clients n ≡ None → (mine n w.up ≡ []) × Unasked n w.server
 
-put_back : (clients : List (ℕ × Client)) (n x : ℕ) (new : Client) → client (put clients x new) n ≡ None → client clients n ≡ None
+pub put_back : (clients : List (ℕ × Client)) (n x : ℕ) (new : Client) → client (put clients x new) n ≡ None → client clients n ≡ None
 put_back [] n x new none = refl
 put_back (c ∷ clients) n x new none = by_test (c.0 == n) none (put_back clients n x new)
   where
@@ -336,7 +336,7 @@ put_back (c ∷ clients) n x new none = by_test (c.0 == n) none (put_back client
         is_none is = cc
     by_test false none go = go none
 
-strange_step : (n : ℕ) (w : World) (step : Step) → Strange n w → Strange n (after_row w (row w step))
+pub strange_step : (n : ℕ) (w : World) (step : Step) → Strange n w → Strange n (after_row w (row w step))
 strange_step n w step strange = by_step step
   where
     Good : Option Made → Type 0

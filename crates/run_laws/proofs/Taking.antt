@@ -342,7 +342,7 @@ joined {A} {I} one two = record {
     if_both (Some x) P Q p q = (p, q)
 
 -- rows that need nothing else
-alone : {A I : View} → KeptByRows I → KeptBefore A I
+pub alone : {A I : View} → KeptByRows I → KeptBefore A I
 alone kept = record {
   op = λ n c up down s a i. kept.op n c up down s i;
   flush = λ n c up down s a i. kept.flush n c up down s i;

@@ -38,6 +38,20 @@ pub record KeptByRows (I : View) : Type 0 where
   pub tended : (n : ℕ) (c : Client) (up : List ToServer) (down : List ToClient) (s : Server) → I n c up down s → IfSome (on_tend s) (Server's I n c up down)
   pub restarted : (n : ℕ) (c : Client) (up : List ToServer) (down : List ToClient) (s : Server) (k : ℕ) → I n c up down s → IfSome (on_restart s k) (Server's I n c up down)
 
+-- What holds before a row gives what holds after it; and it gives that by itself, where no row touches it.
+pub record GivenByRows (A I : View) : Type 0 where
+  pub weak : (n : ℕ) (c : Client) (up : List ToServer) (down : List ToClient) (s : Server) → A n c up down s → I n c up down s
+  pub op : (n : ℕ) (c : Client) (up : List ToServer) (down : List ToClient) (s : Server) → A n c up down s → IfSome (on_op c) (Client's I n up down s)
+  pub flush : (n : ℕ) (c : Client) (up : List ToServer) (down : List ToClient) (s : Server) → A n c up down s → IfSome (on_flush c) (Client's I n up down s)
+  pub told : (n : ℕ) (c : Client) (up : List ToServer) (m : ToClient) (down : List ToClient) (s : Server) → A n c up (m ∷ down) s → Client's I n up down s (on_told c m)
+  pub stored : (n : ℕ) (c : Client) (m : FromStore) (up : List ToServer) (down : List ToClient) (s : Server) → A n c up down s → Client's I n up down s (on_stored c m)
+  pub own : (n : ℕ) (c : Client) (m : ToServer) (up : List ToServer) (down : List ToClient) (s : Server) → A n c (m ∷ up) down s → Server's I n c up down (on_take s n m)
+  pub other : (n x : ℕ) (c : Client) (m : ToServer) (up : List ToServer) (down : List ToClient) (s : Server) → (x == n) ≡ false → A n c up down s → Server's I n c up down (on_take s x m)
+  pub reported : (n : ℕ) (c : Client) (m : ToServer) (up : List ToServer) (down : List ToClient) (s : Server) → A n c up down s → Server's I n c up down (on_report s m)
+  pub committed : (n : ℕ) (c : Client) (up : List ToServer) (down : List ToClient) (s : Server) → A n c up down s → IfSome (on_commit s) (Server's I n c up down)
+  pub tended : (n : ℕ) (c : Client) (up : List ToServer) (down : List ToClient) (s : Server) → A n c up down s → IfSome (on_tend s) (Server's I n c up down)
+  pub restarted : (n : ℕ) (c : Client) (up : List ToServer) (down : List ToClient) (s : Server) (k : ℕ) → A n c up down s → IfSome (on_restart s k) (Server's I n c up down)
+
 abbrev Among : View → List (ℕ × Client) → List (ℕ × ToServer) → List (ℕ × ToClient) → Server → Type 0
 Among I clients up down server = (n : ℕ) → IfSome (client clients n) (λ c. I n c (mine n up) (mine n down) server)
 
@@ -64,23 +78,26 @@ if_some_map : (o : Option Client) (P Q : Client → Type 0) → ((c : Client) �
 if_some_map None P Q go holds = tt
 if_some_map (Some c) P Q go holds = go c holds
 
-server_each : (I : View) (w : World) (up : List (ℕ × ToServer)) (r : Row Server)
-    → ((n : ℕ) (c : Client) → I n c (mine n w.up) (mine n w.down) w.server → Server's I n c (mine n up) (mine n w.down) r) → EachClient I w
+server_each : (A I : View) (w : World) (up : List (ℕ × ToServer)) (r : Row Server)
+    → ((n : ℕ) (c : Client) → A n c (mine n w.up) (mine n w.down) w.server → Server's I n c (mine n up) (mine n w.down) r) → EachClient A w
     → Among I w.clients up (w.down ++ to_clients r.sent) r.state
-server_each I w up r keeps each n =
+server_each A I w up r keeps each n =
     if_some_map (client w.clients n) _ _ (λ c holds. rw (mine_append n w.down (to_clients r.sent)) (keeps n c holds)) (each n)
 
 -- each step of the world
-pub step_keeps : (I : View) → KeptByRows I → (w : World) (step : Step) → EachClient I w → EachClient I (after_row w (row w step))
-step_keeps I kept w step each = by_step step
+pub step_gives : (A I : View) → GivenByRows A I → (w : World) (step : Step) → EachClient A w → EachClient I (after_row w (row w step))
+step_gives A I kept w step every = by_step step
   where
     After : Option Made → Type 0
     After o = EachClient I (after_row w o)
 
-    by_client : (x : ℕ) (go_on : Client → Option Made) → ((c : Client) → I x c (mine x w.up) (mine x w.down) w.server → After (go_on c)) → After (with_client w x go_on)
-    by_client x go_on keeps = found (client w.clients x) (each x)
+    each : EachClient I w
+    each n = if_some_map (client w.clients n) (λ c. A n c (mine n w.up) (mine n w.down) w.server) (λ c. I n c (mine n w.up) (mine n w.down) w.server) (λ c holds. kept.weak n c (mine n w.up) (mine n w.down) w.server holds) (every n)
+
+    by_client : (x : ℕ) (go_on : Client → Option Made) → ((c : Client) → A x c (mine x w.up) (mine x w.down) w.server → After (go_on c)) → After (with_client w x go_on)
+    by_client x go_on keeps = found (client w.clients x) (every x)
       where
-        found : (o : Option Client) → IfSome o (λ c. I x c (mine x w.up) (mine x w.down) w.server) → After (elim o [ None ↦ None | Some c ↦ go_on c ])
+        found : (o : Option Client) → IfSome o (λ c. A x c (mine x w.up) (mine x w.down) w.server) → After (elim o [ None ↦ None | Some c ↦ go_on c ])
         found None holds = each
         found (Some c) holds = keeps c holds
 
@@ -99,23 +116,23 @@ step_keeps I kept w step each = by_step step
     own_row x None holds = each
     own_row x (Some r) holds = client_each I w x w.down r holds (λ n other. refl) each
 
-    server_row : (o : Option (Row Server)) → ((n : ℕ) (c : Client) → I n c (mine n w.up) (mine n w.down) w.server → IfSome o (Server's I n c (mine n w.up) (mine n w.down))) → After (some_row (at_server w None) o)
+    server_row : (o : Option (Row Server)) → ((n : ℕ) (c : Client) → A n c (mine n w.up) (mine n w.down) w.server → IfSome o (Server's I n c (mine n w.up) (mine n w.down))) → After (some_row (at_server w None) o)
     server_row None keeps = each
-    server_row (Some r) keeps = server_each I w w.up r keeps each
+    server_row (Some r) keeps = server_each A I w w.up r keeps every
 
-    server_took : (x : ℕ) (m : ToServer) (rest : List (ℕ × ToServer)) → IsHead x w.up (m, rest) → (n : ℕ) (c : Client) → I n c (mine n w.up) (mine n w.down) w.server → Server's I n c (mine n rest) (mine n w.down) (on_take w.server x m)
+    server_took : (x : ℕ) (m : ToServer) (rest : List (ℕ × ToServer)) → IsHead x w.up (m, rest) → (n : ℕ) (c : Client) → A n c (mine n w.up) (mine n w.down) w.server → Server's I n c (mine n rest) (mine n w.down) (on_take w.server x m)
     server_took x m rest head n c holds = by_test (x == n) refl
       where
         by_test : (b : Bool) → (x == n) ≡ b → Server's I n c (mine n rest) (mine n w.down) (on_take w.server x m)
         by_test true test =
             let same : x ≡ n = grind (arith, nat_tests, test) in
             let popped : mine n w.up ≡ m ∷ mine n rest = subst (λ (y : ℕ). mine y w.up ≡ m ∷ mine y rest) same head.0 in
-            subst (λ (y : ℕ). Server's I n c (mine n rest) (mine n w.down) (on_take w.server y m)) (sym same) (kept.own n c m (mine n rest) (mine n w.down) w.server (subst (λ (l : List ToServer). I n c l (mine n w.down) w.server) popped holds))
-        by_test false test = kept.other n x c m (mine n rest) (mine n w.down) w.server test (subst (λ (l : List ToServer). I n c l (mine n w.down) w.server) (sym (head.1 n test)) holds)
+            subst (λ (y : ℕ). Server's I n c (mine n rest) (mine n w.down) (on_take w.server y m)) (sym same) (kept.own n c m (mine n rest) (mine n w.down) w.server (subst (λ (l : List ToServer). A n c l (mine n w.down) w.server) popped holds))
+        by_test false test = kept.other n x c m (mine n rest) (mine n w.down) w.server test (subst (λ (l : List ToServer). A n c l (mine n w.down) w.server) (sym (head.1 n test)) holds)
 
     took : (x : ℕ) (b : Bool) → After (cond b (with_first w.reported (server_takes_report w)) (with_message x w.up (server_takes x w)))
-    took x true = by_first w.reported (server_takes_report w) (λ m rest. server_each I w w.up (on_report w.server m) (λ n c holds. kept.reported n c m (mine n w.up) (mine n w.down) w.server holds) each)
-    took x false = by_message x w.up (server_takes x w) (λ m rest head. server_each I w rest (on_take w.server x m) (server_took x m rest head) each)
+    took x true = by_first w.reported (server_takes_report w) (λ m rest. server_each A I w w.up (on_report w.server m) (λ n c holds. kept.reported n c m (mine n w.up) (mine n w.down) w.server holds) every)
+    took x false = by_message x w.up (server_takes x w) (λ m rest head. server_each A I w rest (on_take w.server x m) (server_took x m rest head) every)
 
     stores : (x : ℕ) (b : Bool) → After (cond b (with_first w.ordered (store_takes_order w)) (with_message x w.asked (store_takes x w)))
     stores x true = by_first w.ordered (store_takes_order w) (λ m rest. each)
@@ -125,7 +142,7 @@ step_keeps I kept w step each = by_step step
     by_step (Op x) = by_client x _ (λ c holds. own_row x (on_op c) (kept.op x c (mine x w.up) (mine x w.down) w.server holds))
     by_step (Flush x) = by_client x _ (λ c holds. own_row x (on_flush c) (kept.flush x c (mine x w.up) (mine x w.down) w.server holds))
     by_step (ClientFromServer x) = by_message x w.down (client_takes x w) (λ m rest head. by_client x _ (λ c holds.
-        client_each I w x rest (on_told c m) (kept.told x c (mine x w.up) m (mine x rest) w.server (subst (λ (l : List ToClient). I x c (mine x w.up) l w.server) head.0 holds)) head.1 each))
+        client_each I w x rest (on_told c m) (kept.told x c (mine x w.up) m (mine x rest) w.server (subst (λ (l : List ToClient). A x c (mine x w.up) l w.server) head.0 holds)) head.1 each))
     by_step (ClientFromStore x) = by_message x w.stored (client_takes_stored x w) (λ m rest head. by_client x _ (λ c holds.
         client_each I w x w.down (on_stored c m) (kept.stored x c m (mine x w.up) (mine x w.down) w.server holds) (λ n other. refl) each))
     by_step (ServerTakes x) = took x (x == store_node w)
@@ -133,6 +150,21 @@ step_keeps I kept w step each = by_step step
     by_step Commit = server_row (on_commit w.server) (λ n c holds. kept.committed n c (mine n w.up) (mine n w.down) w.server holds)
     by_step Tend = server_row (on_tend w.server) (λ n c holds. kept.tended n c (mine n w.up) (mine n w.down) w.server holds)
     by_step (Restart k) = server_row (on_restart w.server k) (λ n c holds. kept.restarted n c (mine n w.up) (mine n w.down) w.server k holds)
+
+pub step_keeps : (I : View) → KeptByRows I → (w : World) (step : Step) → EachClient I w → EachClient I (after_row w (row w step))
+step_keeps I kept w step each = step_gives I I (record {
+  weak = λ n c up down s holds. holds;
+  op = kept.op;
+  flush = kept.flush;
+  told = kept.told;
+  stored = kept.stored;
+  own = kept.own;
+  other = kept.other;
+  reported = kept.reported;
+  committed = kept.committed;
+  tended = kept.tended;
+  restarted = kept.restarted;
+}) w step each
 
 -- and so each run
 pub run_keeps : (I : View) → KeptByRows I → (w : World) (steps : List Step) → EachClient I w → EachClient I (after w steps)

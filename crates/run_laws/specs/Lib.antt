@@ -6,3 +6,4 @@ pub mod Tables
 pub mod Plain
 pub mod Prepared
 pub mod FlushNumbers
+pub mod Holding

@@ -12,6 +12,7 @@ mod snapshots;
 mod stamps;
 mod steps;
 mod tables;
+mod writers;
 
 pub use entries::{effects_are_of_clients, what_is_entered_is_a_journal};
 pub use flushes::{
@@ -32,3 +33,4 @@ pub use tables::{
     a_file_has_one_writer, ids_are_given_in_order, one_operation_at_a_time,
     what_is_purged_was_removed,
 };
+pub use writers::a_file_has_one_writer_among_the_clients;

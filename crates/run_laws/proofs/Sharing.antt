@@ -1,0 +1,139 @@
+-- What a client holds is covered by what the server's table says of it.
+use Rattle.std.proofs.Common.{◌≡◌, ◌≤◌, ℕ, List, [], ◌∷◌, ◌++◌, take, length, Bool, true, false, Option, None, Some, ◌⊎◌}
+use Rattle.std.specs.Prelude.{◌==◌, ◌&&◌}
+use Rattle.std.specs.List.{list_any}
+use Rattle.snap_ids.specs.declared.id.Ino.{Ino}
+use Rattle.snap_ids.specs.declared.values.Mode.{Mode}
+use Rattle.snap_ids.specs.declared.values.Mode.TheVariants.{Read, Write}
+use Rattle.plain_types.specs.declared.entry.Entry.{Entry}
+use Rattle.plain_types.specs.declared.history.Sent.{Sent}
+use Rattle.plain_types.specs.declared.message.FlushMsg.{FlushMsg}
+use Rattle.plain_types.specs.declared.message.ToClient.{ToClient}
+use Rattle.plain_types.specs.declared.message.ToClient.TheVariants.{Grant}
+use Rattle.plain_types.specs.declared.message.ToServer.{ToServer}
+use Rattle.plain_types.specs.declared.message.ToServer.TheVariants.{Flush, DropRead}
+use Rattle.plain_types.specs.declared.request.Request.{Request}
+use Rattle.plain_types.specs.declared.request.Request.TheVariants as request
+use Rattle.plain_journal.specs.Table.{last_flush}
+use Rattle.held_files.specs.Files.{HeldFiles, is_ino}
+use Rattle.step_table.specs.ServerState.{number_of}
+use Rattle.step_table.specs.ClientState.{Under, Open}
+use Rattle.run_laws.specs.Links.{View, mail_of}
+use Rattle.run_laws.specs.Requests.{asks}
+use Rattle.run_laws.specs.Stamps.{told_by}
+use Rattle.run_laws.proofs.Shares.{has, shares, gives, AllGive}
+
+-- the files that were let go since the open request was sent
+abbrev pub gone_in : Under → List Ino
+gone_in (Open number tid text asked let_go) = let_go
+gone_in under = []
+
+abbrev pub is_gone : Ino → List Ino → Bool
+is_gone ino gone = list_any (is_ino ino) gone
+
+-- a message of a connection lets a file go
+abbrev pub is_release : ℕ → Ino → ToServer → Bool
+is_release k ino (Flush conn f) = conn == k && (f.release && is_ino ino f.ino)
+is_release k ino m = false
+
+abbrev pub is_drop : ℕ → Ino → ToServer → Bool
+is_drop k ino (DropRead conn file) = conn == k && is_ino ino file
+is_drop k ino m = false
+
+-- a request is for a capability of this file
+abbrev pub is_cap : Ino → Request → Bool
+is_cap ino (request.Cap file mode) = is_ino ino file
+is_cap ino asked = false
+
+-- What was let go behind the last sending of the open request is remembered; a release isn't of the file that it asks for.
+abbrev pub IsLet : ℕ → Request → List Ino → ToServer → Type 0
+IsLet conn asked gone m =
+    (ino : Ino) → (is_drop conn ino m ≡ true → is_gone ino gone ≡ true) × (is_release conn ino m ≡ true → (is_gone ino gone ≡ true) × (is_cap ino asked ≡ false))
+
+abbrev pub AllLet : ℕ → Request → List Ino → List ToServer → Type 0
+AllLet conn asked gone [] = Unit {0}
+AllLet conn asked gone (m ∷ up) = (asks up ≡ 0 → IsLet conn asked gone m) × AllLet conn asked gone up
+
+abbrev pub Lets : ℕ → Under → List ToServer → Type 0
+Lets conn (Open number tid text asked gone) up = AllLet conn asked gone up
+Lets conn under up = Unit {0}
+
+-- What was let go isn't held, and a capability is asked for that isn't held.
+abbrev pub CapFree : HeldFiles → List Ino → Request → Type 0
+CapFree files gone (request.Cap file Read) = (has file files ≡ 0) × (is_gone file gone ≡ false)
+CapFree files gone (request.Cap file Write) = has file files ≤ 1
+CapFree files gone asked = Unit {0}
+
+abbrev pub Frees : HeldFiles → Under → Type 0
+Frees files (Open number tid text asked gone) = ((ino : Ino) → is_gone ino gone ≡ true → has ino files ≡ 0) × CapFree files gone asked
+Frees files under = Unit {0}
+
+-- what is granted is what was asked for
+abbrev pub IsAsked : Under → Ino → Mode → Type 0
+IsAsked (Open number tid text asked gone) ino mode = asked ≡ request.Cap ino mode
+IsAsked under ino mode = ⊥
+
+abbrev pub GrantAt : ℕ → Under → ToClient → Type 0
+GrantAt conn under (Grant k tid stamp ino mode size trace) = (k == conn) ≡ true → IsAsked under ino mode
+GrantAt conn under m = Unit {0}
+
+abbrev pub AllGrants : ℕ → Under → List ToClient → Type 0
+AllGrants conn under [] = Unit {0}
+AllGrants conn under (m ∷ down) = GrantAt conn under m × AllGrants conn under down
+
+-- the releases of a file are numbered up to this
+abbrev pub Released : Ino → ℕ → List FlushMsg → Type 0
+Released ino last [] = Unit {0}
+Released ino last (f ∷ flushes) = ((f.release && is_ino ino f.ino) ≡ true → f.number ≤ last) × Released ino last flushes
+
+-- where a file is held or given, its releases are entered
+abbrev pub GivesAfter : ℕ → List Ino → List FlushMsg → ℕ → ToClient → Type 0
+GivesAfter conn gone kept last m = (ino : Ino) → (gives conn gone ino m ≡ 0) ⊎ Released ino last kept
+
+abbrev pub DownAfter : ℕ → List Ino → List FlushMsg → ℕ → List ToClient → Type 0
+DownAfter conn gone kept last [] = Unit {0}
+DownAfter conn gone kept last (m ∷ down) = GivesAfter conn gone kept last m × DownAfter conn gone kept last down
+
+abbrev pub ToldAfter : ℕ → List Ino → List FlushMsg → ℕ → Option ToClient → Type 0
+ToldAfter conn gone kept last None = Unit {0}
+ToldAfter conn gone kept last (Some m) = GivesAfter conn gone kept last m
+
+abbrev pub MailAfter : ℕ → ℕ → List Ino → List FlushMsg → List Entry → List (ℕ × Sent) → Type 0
+MailAfter n conn gone kept entries [] = Unit {0}
+MailAfter n conn gone kept entries (m ∷ mail) =
+    (m.0 ≤ length entries) × ((m.1.to == n) ≡ true → ToldAfter conn gone kept (last_flush (take m.0 entries) n) (told_by m.1.message)) × MailAfter n conn gone kept entries mail
+
+-- all that a client has and that is on its way to it, of its connection, is no more than this
+abbrev pub Covered : ℕ → List Ino → HeldFiles → List ToClient → Ino → ℕ → Type 0
+Covered conn gone files down ino most = (has ino files ≤ most) × AllGive conn gone ino most down
+
+-- where the server has a number for the client: each file is covered by its table
+abbrev pub CoverBy : (Ino → ℕ → Type 0) → (Ino → ℕ) → Option ℕ → Type 0
+CoverBy C table None = Unit {0}
+CoverBy C table (Some j) = (ino : Ino) → C ino (table ino)
+
+-- and one that is let go on the way to the server, and is in the table for Read, isn't held and not given
+abbrev pub DroppedBy : (Ino → ℕ → Type 0) → List ToServer → (Ino → ℕ) → Option ℕ → Type 0
+DroppedBy C q table None = Unit {0}
+DroppedBy C q table (Some j) = (ino : Ino) → list_any (is_drop j ino) q ≡ true → table ino ≡ 1 → C ino 0
+
+-- Of one client: `k` is the server's number for it, `table` what the server's table says of its files.
+pub record SharesAt (conn : ℕ) (files : HeldFiles) (under : Under) (q : List ToServer) (k : Option ℕ) (p : List ToClient) (table : Ino → ℕ) : Type 0 where
+  pub cover : CoverBy (Covered conn (gone_in under) files p) table k
+  pub dropped : DroppedBy (Covered conn (gone_in under) files p) q table k
+  pub lets : Lets conn under q
+  pub frees : Frees files under
+  pub grants : AllGrants conn under p
+
+abbrev pub Sharing : View
+Sharing n c up down s =
+    SharesAt c.conn c.files c.under up (number_of s.current n) (down ++ mail_of n s.mail) (λ ino. shares n ino s.holders)
+
+-- Where a file is held, or given, its releases are durable, or entered when it was given.
+pub record LettingAt (n conn : ℕ) (gone : List Ino) (files : HeldFiles) (kept : List FlushMsg) (down : List ToClient) (entries : List Entry) (durable : ℕ) (mail : List (ℕ × Sent)) : Type 0 where
+  pub held : (ino : Ino) → (has ino files ≡ 0) ⊎ Released ino (last_flush (take durable entries) n) kept
+  pub coming : DownAfter conn gone kept (last_flush (take durable entries) n) down
+  pub post : MailAfter n conn gone kept entries mail
+
+abbrev pub Letting : View
+Letting n c up down s = LettingAt n c.conn (gone_in c.under) c.files c.unacked down s.entries s.durable s.mail

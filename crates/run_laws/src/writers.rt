@@ -1,0 +1,14 @@
+// Who holds a file, by what the clients themselves count.
+ghost use Rattle.std.specs.Prelude.{List};
+ghost use Rattle.plain_types.specs.declared.history.Event.{Event};
+ghost use Rattle.plain_types.specs.declared.script.Script.{Script};
+ghost use Rattle.step_table.specs.Legal.{Legal};
+ghost use Rattle.run_laws.specs.Moments.{world_after};
+ghost use Rattle.run_laws.specs.Holding.{OneClientWrites};
+
+/// At each moment at most one client holds a file for Write, and then no other client holds it at all, among the files that
+/// the clients themselves hold: from the moment at which a client takes what gives it the file to the one at which it sends
+/// the release. Neither restarts nor broken links make two writers of a file, nor a reader beside a writer.
+pub fn a_file_has_one_writer_among_the_clients()
+    ensures { (script : Script) (history : List Event) → Legal history script → OneClientWrites (world_after script history) }
+{}
