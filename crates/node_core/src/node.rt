@@ -66,7 +66,7 @@ pub trait NodeCore {
     fn enabled(&self, step: &Step) -> bool
         ensures { result ≡ can self.now step.now };
 
-    /// Makes a step. `NotEnabled` exactly where it isn't enabled or `taken` doesn't fit, and nothing changed then.
+    /// Makes a step. `NotEnabled` exactly where it isn't enabled or `taken` doesn't fit, whatever the memory, and nothing changed then.
     /// `DiskFault` only where in this call the disk's failures rose by two more than the steps that met one, or by one
     /// more where 31 steps have met one. After `NoMemory` the node is ended, and answers nothing else.
     fn act(&mut self, step: &Step, taken: Option<Message>) -> Result<Done, NodeError>
@@ -78,7 +78,7 @@ pub trait NodeCore {
         ensures met_a_fault { met self.old < met self.new → faults self.old < faults self.new }
         ensures met_in_ok { OnErr result (met self.new ≡ met self.old) }
         ensures not_enabled { result ≡ Err NotEnabled → (can self.old step.now && fits self.old step.now taken ≡ false) × (self.new ≡ self.old) }
-        ensures refused { can self.old step.now && fits self.old step.now taken ≡ false → (result ≡ Err NotEnabled) ⊎ (result ≡ Err NoMemory) }
+        ensures refused { can self.old step.now && fits self.old step.now taken ≡ false → (result ≡ Err NotEnabled) ⊎ ended self.old }
         ensures fault { result ≡ Err DiskFault → (faults self.old + met self.new + 2 ≤ faults self.new + met self.old)
             ⊎ ((faults self.old + met self.new + 1 ≤ faults self.new + met self.old) × (met self.new ≡ 31)) }
         ensures ends { result ≡ Err NoMemory → ended self.new }
