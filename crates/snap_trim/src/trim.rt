@@ -1,10 +1,10 @@
 // What is dropped, and in which order.
-ghost use Rattle.std.specs.Prelude.{◌≡◌, ◌<◌, ◌≤◌, true, false, IfSome};
+ghost use Rattle.std.specs.Prelude.{◌≡◌, ◌<◌, ◌≤◌, true, false, None, if◌then◌else◌, IfSome};
 ghost use Rattle.snap_ids.specs.Context.{is_listed};
 ghost use Rattle.snap_ids.specs.declared.id.Ino.{Ino};
 ghost use Rattle.snap_ids.specs.declared.id.SnapId.{SnapId as Id};
 ghost use Rattle.snap_ids.specs.declared.id.TheConstants.{NOSNAP};
-ghost use Rattle.inode_versions.specs.Table.{attr_at, head_of, trimmed_table};
+ghost use Rattle.inode_versions.specs.Table.{attr_at, head_of, is_kept, since, trimmed_table};
 ghost use Rattle.inode_versions.specs.Table.{count_unneeded as unneeded_inodes};
 ghost use Rattle.dentry_tree.specs.Dentries.{entries_at, kind_of, newest};
 ghost use Rattle.dentry_tree.specs.Places.{trimmed_all};
@@ -41,6 +41,8 @@ pub fn trim_all(inodes: &mut InodeTable, dirs: &mut DirTree, live: &Ids) -> usiz
     ensures count { result ≡ counted (unneeded_inodes live.now inodes.old) (unneeded_entries live.now dirs.old.dentries) }
     ensures attributes { (i : Ino) → (s : Id) → is_listed s live.now ≡ true → attr_at inodes.new i s ≡ attr_at inodes.old i s }
     ensures heads { (i : Ino) → head_of inodes.new i ≡ head_of inodes.old i }
+    ensures kept { (i : Ino) → (s : Id) → attr_at inodes.new i s ≡ (if is_kept live.now inodes.old i s then attr_at inodes.old i s else None) }
+    ensures since { (i : Ino) → since inodes.new i ≡ since inodes.old i }
     ensures names { (s : Id) → is_listed s live.now ≡ true → entries_at s dirs.new ≡ entries_at s dirs.old }
     ensures live_names { entries_at NOSNAP dirs.new ≡ entries_at NOSNAP dirs.old }
     ensures kinds { (i : Ino) → kind_of dirs.new i ≡ kind_of dirs.old i }

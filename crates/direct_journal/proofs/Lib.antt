@@ -1,0 +1,14 @@
+pub mod Agree
+pub mod Direct
+pub mod Effects
+pub mod Empty
+pub mod Entries
+pub mod Kept
+pub mod Made
+pub mod More
+pub mod Numbered
+pub mod Outcome
+pub mod Replies
+pub mod Sizes
+pub mod Told
+pub mod Written

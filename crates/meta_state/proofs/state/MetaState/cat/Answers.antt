@@ -1,0 +1,13 @@
+use Rattle.std.proofs.Common.{◌∙◌, Ok, ap, subst}
+use Rattle.plain_journal.specs.Answers.{found}
+use Rattle.meta_state.specs.Queries.{IsReached}
+use Rattle.meta_state.proofs.Answers.{cat_live}
+use Rattle.meta_state.proofs.state.MetaState.cat.Goals as goal
+
+-- src/answer.rt
+pub returns-in-Ok-Live : goal.returns-in-Ok-Live
+returns-in-Ok-Live c entries stands past =
+    c.live_cat.ensures
+    ∙ cat_live c.args.self.now entries stands c.args.path.now c.in-Ok-Live.ino c.now_at.result
+    (subst (IsReached entries (found entries c.args.path.now)) (c.in-Ok-Live.is ∙ ap (λ r. Ok r) c.in-Ok-Live.field-0-is) (c.reach.ensures entries stands))
+    c.now_at.ensures

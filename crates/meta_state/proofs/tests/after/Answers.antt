@@ -1,0 +1,11 @@
+use Rattle.meta_state.proofs.Fronts.{may_next, stands_next}
+use Rattle.meta_state.proofs.tests.after.Goals as goal
+
+-- src/tests.rt
+pub apply-requires : goal.apply-requires
+apply-requires c =
+    record { legal = may_next c.args.entries.now c.loop-entry.entry-index c.entry-item.result c.loop-entry-test.true c.entry-item.is c.requires c.loop-entry.state c.loop-entry.invariant }
+
+pub loop-entry-preserved : goal.loop-entry-preserved
+loop-entry-preserved c =
+    stands_next c.args.entries.now c.loop-entry.entry-index c.entry-item.result c.loop-entry-test.true c.entry-item.is c.requires c.loop-entry.state c.apply.new.self c.loop-entry.invariant c.in_ok-apply.ensures.applied

@@ -1,0 +1,4 @@
+pub mod Applied
+pub mod Decisions
+pub mod Queries
+pub mod Stands
