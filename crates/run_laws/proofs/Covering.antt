@@ -31,6 +31,7 @@ use Rattle.run_laws.specs.FlushNumbers.{above, Follow, Counted, flushes_of}
 use Rattle.run_laws.specs.Links.{View, mine, mail_of}
 use Rattle.run_laws.specs.Requests.{Requested}
 use Rattle.run_laws.specs.Stamps.{told_by}
+use Rattle.run_laws.specs.Tenures.{AllReleased}
 use Rattle.run_laws.proofs.Acts.{Fit, AnyAct, any_fit, notices_keep, KeptByActs, acts_keep, row_keeps}
 use Rattle.run_laws.proofs.Asked.{requests_act}
 use Rattle.run_laws.proofs.Bounding.{my_rise, BoundAt, Bounded, Rising, rising_act}
@@ -46,7 +47,7 @@ use Rattle.run_laws.proofs.Once.{hand_of}
 use Rattle.run_laws.proofs.Requested.{Asking, requested}
 use Rattle.run_laws.proofs.Ruled.{CapAt, ruled_treat}
 use Rattle.run_laws.proofs.Shares.{has, shares, gives, AllGive, give_append, both_true, reader_shares, shares_others, shares_same}
-use Rattle.run_laws.proofs.Sharing.{gone_in, is_drop, Lets, Released, GivesAfter, DownAfter, ToldAfter, MailAfter, Covered, DroppedBy, SharesAt, Sharing, Letting}
+use Rattle.run_laws.proofs.Sharing.{gone_in, is_drop, Lets, GivesAfter, DownAfter, ToldAfter, MailAfter, Covered, DroppedBy, SharesAt, Sharing, Letting}
 use Rattle.run_laws.proofs.Releasing.{released_more, released_filter}
 use Rattle.run_laws.proofs.Taking.{Way, Flushes, Fits, ruled, is_number, first_of, after_held, flush_taken, flush_knows, flush_passed, same_way}
 use Rattle.run_laws.proofs.Taking.{by_acts as flushing_by}
@@ -86,7 +87,7 @@ gone_after n conn gone kept entries d fits counted (m ∷ mail) all = by_test (n
     later : (last : ℕ) (told : ToClient) → last ≤ last_flush (take d entries) n → GivesAfter conn gone kept last told → GivesAfter conn gone kept (last_flush (take d entries) n) told
     later last told less after ino = either (after ino)
       where
-        either : (gives conn gone ino told ≡ 0) ⊎ Released ino last kept → (gives conn gone ino told ≡ 0) ⊎ Released ino (last_flush (take d entries) n) kept
+        either : (gives conn gone ino told ≡ 0) ⊎ AllReleased ino last kept → (gives conn gone ino told ≡ 0) ⊎ AllReleased ino (last_flush (take d entries) n) kept
         either (inl zero_now) = inl zero_now
         either (inr all) = inr (released_more ino last (last_flush (take d entries) n) kept less all)
 
@@ -271,19 +272,19 @@ covered_told n c down x most s y inos was = by_number (number_of s.current y)
 covered_buffer : (n : ℕ) (c : Client) (down : List ToClient) (x : Ino) (most : ℕ) (s : Server) (e : Entry) → Covered c.conn (gone_in c.under) c.files (down ++ mail_of n s.mail) x most → Covered c.conn (gone_in c.under) c.files (down ++ mail_of n (buffer s e).mail) x most
 covered_buffer n c down x most s e was = notices_keep (λ t. Covered c.conn (gone_in c.under) c.files (down ++ mail_of n t.mail) x most) (λ t y inos so. covered_told n c down x most t y inos so) s.entries (up_to s.clients) (record s { entries = s.entries ++ e ∷ [] }) was
 
-down_none : (conn : ℕ) (gone : List Ino) (kept : List FlushMsg) (last : ℕ) (x : Ino) → (Released x last kept → ⊥) → (p : List ToClient) → DownAfter conn gone kept last p → AllGive conn gone x 0 p
+down_none : (conn : ℕ) (gone : List Ino) (kept : List FlushMsg) (last : ℕ) (x : Ino) → (AllReleased x last kept → ⊥) → (p : List ToClient) → DownAfter conn gone kept last p → AllGive conn gone x 0 p
 down_none conn gone kept last x never [] all = tt
 down_none conn gone kept last x never (m ∷ p) all = (either (all.0 x), down_none conn gone kept last x never p all.1)
   where
-    either : (gives conn gone x m ≡ 0) ⊎ Released x last kept → gives conn gone x m ≤ 0
+    either : (gives conn gone x m ≡ 0) ⊎ AllReleased x last kept → gives conn gone x m ≤ 0
     either (inl zero_now) = omega (arith, zero_now)
     either (inr all) = absurd (never all)
 
-mail_none : (n conn : ℕ) (gone : List Ino) (kept : List FlushMsg) (entries : List Entry) (x : Ino) → ((low : ℕ) → low ≤ last_flush entries n → Released x low kept → ⊥) → Counted n 0 entries → (mail : List (ℕ × Sent)) → MailAfter n conn gone kept entries mail → AllGive conn gone x 0 (mail_of n mail)
+mail_none : (n conn : ℕ) (gone : List Ino) (kept : List FlushMsg) (entries : List Entry) (x : Ino) → ((low : ℕ) → low ≤ last_flush entries n → AllReleased x low kept → ⊥) → Counted n 0 entries → (mail : List (ℕ × Sent)) → MailAfter n conn gone kept entries mail → AllGive conn gone x 0 (mail_of n mail)
 mail_none n conn gone kept entries x never counted [] all = tt
 mail_none n conn gone kept entries x never counted (m ∷ mail) all = one m.1.to m.1.message all.1 (mail_none n conn gone kept entries x never counted mail all.2)
   where
-    either : (told : ToClient) → (gives conn gone x told ≡ 0) ⊎ Released x (last_flush (take m.0 entries) n) kept → gives conn gone x told ≤ 0
+    either : (told : ToClient) → (gives conn gone x told ≡ 0) ⊎ AllReleased x (last_flush (take m.0 entries) n) kept → gives conn gone x told ≤ 0
     either told (inl zero_now) = omega (arith, zero_now)
     either told (inr all) = absurd (never (last_flush (take m.0 entries) n) (last_take n m.0 entries counted) all)
 
@@ -306,12 +307,12 @@ release_none n c up down s W f rest x same fl is was = (
     next : f.number ≡ last_flush s.entries n + 1
     next = (subst (Follow (last_flush s.entries n) c.flushes) (sym same) (follows_last n c.flushes c.unacked W down s.entries s.durable s.mail fl)).0
 
-    never : (low : ℕ) → low ≤ last_flush s.entries n → Released x low c.unacked → ⊥
+    never : (low : ℕ) → low ≤ last_flush s.entries n → AllReleased x low c.unacked → ⊥
     never low less all =
-        let first : Released x low (f ∷ rest) = subst (Released x low) (sym same) (released_filter x low (λ (g : FlushMsg). nat_lt (last_flush s.entries n) g.number) c.unacked all) in
+        let first : AllReleased x low (f ∷ rest) = subst (AllReleased x low) (sym same) (released_filter x low (λ (g : FlushMsg). nat_lt (last_flush s.entries n) g.number) c.unacked all) in
         let few = first.0 is in let at = next in omega (arith, less, few, at)
 
-    held : (has x c.files ≡ 0) ⊎ Released x (last_flush (take s.durable s.entries) n) c.unacked → has x c.files ≤ 0
+    held : (has x c.files ≡ 0) ⊎ AllReleased x (last_flush (take s.durable s.entries) n) c.unacked → has x c.files ≤ 0
     held (inl zero_now) = omega (arith, zero_now)
     held (inr all) = absurd (never (last_flush (take s.durable s.entries) n) (last_take n s.durable s.entries fl.counted) all)
 

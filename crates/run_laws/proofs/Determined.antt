@@ -1,5 +1,5 @@
 -- A history's events are those that the table makes of its steps.
-use Rattle.std.proofs.Common.{◌≡◌, List, [], ◌∷◌, map, Option, None, Some, option_map, refl, ap, sym, ◌∙◌}
+use Rattle.std.proofs.Common.{◌≡◌, List, [], ◌∷◌, map, Option, None, Some, refl, ap, sym, ◌∙◌}
 use Rattle.plain_types.specs.declared.history.Event.{Event}
 use Rattle.plain_types.specs.declared.script.Script.{Script}
 use Rattle.step_table.specs.Legal.{IsEventOf, Legal, LegalFrom}

@@ -9,12 +9,8 @@ use Rattle.snap_ids.specs.declared.values.Mode.TheVariants.{Read, Write}
 use Rattle.plain_types.specs.declared.message.FlushMsg.{FlushMsg}
 use Rattle.held_files.specs.Files.{HeldFile, HeldFiles, is_ino, file_of, with_file, without, held_newly, held_again, hold, is_held, is_writer, is_write, may_write, settled_to}
 use Rattle.step_table.specs.ClientTakes.{settled_by}
+use Rattle.run_laws.specs.Tenures.{Distinct}
 use Rattle.run_laws.proofs.Shares.{rank, rank_in, has}
-
--- a list in which no file stands twice
-abbrev pub Distinct : HeldFiles → Type 0
-Distinct [] = Unit {0}
-Distinct (f ∷ files) = (is_held f.0 files ≡ false) × Distinct files
 
 ino_sym : (a b : Ino) → is_ino a b ≡ is_ino b a
 ino_sym a b = grind (arith, nat_tests)

@@ -36,13 +36,14 @@ use Rattle.run_laws.specs.FlushNumbers.{above, flushes_of}
 use Rattle.run_laws.specs.Links.{mail_of}
 use Rattle.run_laws.specs.Requests.{IsIt, AllOf, count, asks, answers, Requested}
 use Rattle.run_laws.specs.Stamps.{told_by}
+use Rattle.run_laws.specs.Tenures.{AllReleased}
 use Rattle.run_laws.proofs.Acts.{notices_keep}
 use Rattle.run_laws.proofs.Holders.{or_false}
 use Rattle.run_laws.proofs.Lending.{gone_same}
 use Rattle.run_laws.proofs.Linked.{more_mail}
 use Rattle.run_laws.proofs.Parting.{either_true}
 use Rattle.run_laws.proofs.Shares.{rank, has, share, shares, found_in, gives, give_append, give_more, both_true, or_none, shares_end, shares_same, shares_others, shares_raised}
-use Rattle.run_laws.proofs.Sharing.{gone_in, is_gone, is_release, is_drop, is_cap, AllLet, Lets, CapFree, Frees, IsAsked, GrantAt, AllGrants, Released, GivesAfter, DownAfter, ToldAfter, MailAfter, Covered, CoverBy, DroppedBy, SharesAt, Sharing, Letting}
+use Rattle.run_laws.proofs.Sharing.{gone_in, is_gone, is_release, is_drop, is_cap, AllLet, Lets, CapFree, Frees, IsAsked, GrantAt, AllGrants, GivesAfter, DownAfter, ToldAfter, MailAfter, Covered, CoverBy, DroppedBy, SharesAt, Sharing, Letting}
 use Rattle.run_laws.proofs.Taking.{Way}
 
 -- the request in hand is the open one, and none is on the way
@@ -92,15 +93,15 @@ none_in k ino (Flush conn f ∷ up) none = let parts = or_false (conn == k && (f
     by_test false one rest = rest
 none_in k ino (m ∷ up) none = none_in k ino up (or_false (is_release k ino m) (list_any (is_release k ino) up) none).1
 
-above_none : (ino : Ino) (last : ℕ) (kept : List FlushMsg) → list_any (releases ino) (above last kept) ≡ false → Released ino last kept
+above_none : (ino : Ino) (last : ℕ) (kept : List FlushMsg) → list_any (releases ino) (above last kept) ≡ false → AllReleased ino last kept
 above_none ino last [] none = tt
 above_none ino last (f ∷ kept) none = by_test (nat_lt last f.number) refl none (above_none ino last kept)
   where
-    by_test : (b : Bool) → nat_lt last f.number ≡ b → list_any (releases ino) (cond b (f ∷ above last kept) (above last kept)) ≡ false → (list_any (releases ino) (above last kept) ≡ false → Released ino last kept) → ((f.release && is_ino ino f.ino) ≡ true → f.number ≤ last) × Released ino last kept
+    by_test : (b : Bool) → nat_lt last f.number ≡ b → list_any (releases ino) (cond b (f ∷ above last kept) (above last kept)) ≡ false → (list_any (releases ino) (above last kept) ≡ false → AllReleased ino last kept) → ((f.release && is_ino ino f.ino) ≡ true → f.number ≤ last) × AllReleased ino last kept
     by_test true test none go = let parts = or_false (f.release && is_ino ino f.ino) (list_any (releases ino) (above last kept)) none in ((λ is. absurd (true≢false (sym is ∙ parts.0))), go parts.1)
     by_test false test none go = ((λ is. grind (arith, nat_tests, test)), go none)
 
-pub way_released : (k : ℕ) (ino : Ino) (up : List ToServer) (last : ℕ) (kept : List FlushMsg) → flushes_of k up ≡ above last kept → list_any (is_release k ino) up ≡ false → Released ino last kept
+pub way_released : (k : ℕ) (ino : Ino) (up : List ToServer) (last : ℕ) (kept : List FlushMsg) → flushes_of k up ≡ above last kept → list_any (is_release k ino) up ≡ false → AllReleased ino last kept
 way_released k ino up last kept way none = above_none ino last kept (subst (λ (l : List FlushMsg). list_any (releases ino) l ≡ false) way (none_in k ino up none))
 
 -- A message may be made for the client.
@@ -195,14 +196,14 @@ grant_may n conn j files (Open number open_tid text wanted gone) up holders kept
         by_tests true false test is = omega arith
         by_tests false d test is = omega arith
 
-    by_release : (b : Bool) → (j == conn) ≡ b → (x : Ino) → (cond (j == conn && is_ino x ino) (rank mode) 0 ≡ 0) ⊎ Released x last kept
+    by_release : (b : Bool) → (j == conn) ≡ b → (x : Ino) → (cond (j == conn && is_ino x ino) (rank mode) 0 ≡ 0) ⊎ AllReleased x last kept
     by_release false test x = inl (rw test refl)
     by_release true test x = by_any (list_any (is_release j x) up) refl
       where
         not_it : is_cap x wanted ≡ false → is_ino x ino ≡ false
         not_it is = sym (ap (is_cap x) asked) ∙ is
 
-        by_any : (d : Bool) → list_any (is_release j x) up ≡ d → (cond (j == conn && is_ino x ino) (rank mode) 0 ≡ 0) ⊎ Released x last kept
+        by_any : (d : Bool) → list_any (is_release j x) up ≡ d → (cond (j == conn && is_ino x ino) (rank mode) 0 ≡ 0) ⊎ AllReleased x last kept
         by_any true any = inl (rw (test, not_it (let_released conn wanted gone x up lets none (subst (λ (i : ℕ). list_any (is_release i x) up ≡ true) (same_conn test) any)).1) refl)
         by_any false any = inr (way_released j x up last kept way any)
 
@@ -254,14 +255,14 @@ found_may n conn j files (Open number t text asked gone) up holders kept last ti
         by_test true test = let none_now = found_gone gone x said (let_dropped conn asked gone x up lets none (subst (λ (i : ℕ). list_any (is_drop i x) up ≡ true) (same_conn test) any)) in omega (arith, none_now)
         by_test false test = omega arith
 
-    after : (x : Ino) → (cond (j == conn) (found_in gone x said) 0 ≡ 0) ⊎ Released x last kept
+    after : (x : Ino) → (cond (j == conn) (found_in gone x said) 0 ≡ 0) ⊎ AllReleased x last kept
     after x = by_test (j == conn) refl
       where
-        by_any : (j == conn) ≡ true → (d : Bool) → list_any (is_release j x) up ≡ d → (found_in gone x said ≡ 0) ⊎ Released x last kept
+        by_any : (j == conn) ≡ true → (d : Bool) → list_any (is_release j x) up ≡ d → (found_in gone x said ≡ 0) ⊎ AllReleased x last kept
         by_any test true any = inl (let few = found_gone gone x said (let_released conn asked gone x up lets none (subst (λ (i : ℕ). list_any (is_release i x) up ≡ true) (same_conn test) any)).0 in omega (arith, few))
         by_any test false any = inr (way_released j x up last kept way any)
 
-        by_test : (b : Bool) → (j == conn) ≡ b → (cond b (found_in gone x said) 0 ≡ 0) ⊎ Released x last kept
+        by_test : (b : Bool) → (j == conn) ≡ b → (cond b (found_in gone x said) 0 ≡ 0) ⊎ AllReleased x last kept
         by_test true test = by_any test (list_any (is_release j x) up) refl
         by_test false test = inl refl
 
@@ -460,7 +461,7 @@ mail_entered n conn gone kept entries e (m ∷ mail) all =
 
 letting_entered : (n : ℕ) (c : Client) (up : List ToServer) (down : List ToClient) (s : Server) (e : Entry) → s.durable ≤ length s.entries → Letting n c up down s → Letting n c up down (record s { entries = s.entries ++ e ∷ [] })
 letting_entered n c up down s e fits was = record {
-  held = λ ino. subst (λ (l : List Entry). (has ino c.files ≡ 0) ⊎ Released ino (last_flush l n) c.unacked) (sym (take-append-le s.durable s.entries (e ∷ []) fits)) (was.held ino);
+  held = λ ino. subst (λ (l : List Entry). (has ino c.files ≡ 0) ⊎ AllReleased ino (last_flush l n) c.unacked) (sym (take-append-le s.durable s.entries (e ∷ []) fits)) (was.held ino);
   coming = subst (λ (l : List Entry). DownAfter c.conn (gone_in c.under) c.unacked (last_flush l n) down) (sym (take-append-le s.durable s.entries (e ∷ []) fits)) was.coming;
   post = mail_entered n c.conn (gone_in c.under) c.unacked s.entries e s.mail was.post;
 }

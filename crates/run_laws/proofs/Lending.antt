@@ -38,7 +38,8 @@ use Rattle.plain_types.specs.declared.message.ToClient.TheVariants.{Reply, Grant
 use Rattle.step_table.specs.Messages.{to_client_fits, from_store_fits, context_by}
 use Rattle.step_table.specs.ClientTakes.{marked, renewed, updated, acked, goes_on, granted, asks_for, asks_anew, take_grant, wants_bytes, with_found, found, take_answer, takes_answer, take_reply, having_heard, take_own, on_told, is_key, key_of, take_read, take_stored, on_stored}
 use Rattle.step_table.specs.World.{to_server as for_server}
-use Rattle.run_laws.proofs.Files.{Distinct, has_with, has_hold, has_settled, distinct_with, distinct_hold, distinct_settled, has_reader, not_held, file_same}
+use Rattle.run_laws.specs.Tenures.{Distinct}
+use Rattle.run_laws.proofs.Files.{has_with, has_hold, has_settled, distinct_with, distinct_hold, distinct_settled, has_reader, not_held, file_same}
 use Rattle.run_laws.specs.Links.{Number, mark}
 use Rattle.run_laws.proofs.Clients.{updated_same}
 use Rattle.run_laws.proofs.Shares.{rank, rank_in, has, found_in, gives}

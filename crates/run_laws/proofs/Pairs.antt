@@ -36,7 +36,7 @@ use Rattle.run_laws.proofs.ViewActs.{all_fit, rows_of_acts}
 use Rattle.run_laws.proofs.Views.{Client's, Server's, KeptByRows, step_gives, step_keeps}
 
 -- what the server's rows keep, for each client
-served_rows : {P : ℕ → Server → Type 0} → ((n : ℕ) → ServerGives (P n) (Keeps (P n))) → KeptByRows (λ n c up down s. P n s)
+pub served_rows : {P : ℕ → Server → Type 0} → ((n : ℕ) → ServerGives (P n) (Keeps (P n))) → KeptByRows (λ n c up down s. P n s)
 served_rows {P} gives = record {
   op = λ n c up down s p. still n up down s (on_op c) p;
   flush = λ n c up down s p. still n up down s (on_flush c) p;
@@ -62,10 +62,10 @@ served_rows {P} gives = record {
     served n c up down s (Some r) b p = p
 
 -- a client is one of the server's
-abbrev Placed : ℕ → Server → Type 0
+abbrev pub Placed : ℕ → Server → Type 0
 Placed n s = list_any (λ (x : ℕ). x == n) (up_to s.clients) ≡ true
 
-placed_gives : (n : ℕ) → ServerGives (Placed n) (Keeps (Placed n))
+pub placed_gives : (n : ℕ) → ServerGives (Placed n) (Keeps (Placed n))
 placed_gives n = server_gives {Q = λ b first s. Placed n s} any_always (record {
   begins = λ s p. p;
   one = λ b first s a fit p. subst (λ (k : ℕ). list_any (λ (x : ℕ). x == n) (up_to k) ≡ true) (sym (act_clients s a)) p;
@@ -77,7 +77,7 @@ placed_gives n = server_gives {Q = λ b first s. Placed n s} any_always (record 
   blind = λ b first r e p. p;
 })
 
-placed_in : (n : ℕ) (l : List ℕ) → number_of (map (λ c. (c, 1)) l) n ≡ Some 1 → list_any (λ (x : ℕ). x == n) l ≡ true
+pub placed_in : (n : ℕ) (l : List ℕ) → number_of (map (λ c. (c, 1)) l) n ≡ Some 1 → list_any (λ (x : ℕ). x == n) l ≡ true
 placed_in n [] is = cc
 placed_in n (x ∷ l) is = by_test (x == n) is (placed_in n l)
   where
@@ -220,3 +220,6 @@ held_once_law script history a b c d ino is_c is_d differs writes = held_not ino
     most_of n x is = has_most h.pairs.most n x (mine n w.up) (mine n w.down) w.server
         (subst (λ (o : Option Client). IfSome o (λ c. Sharer n c (mine n w.up) (mine n w.down) w.server)) is (h.sharer n)).1.0
         (subst (λ (o : Option Client). IfSome o (λ c. Bounded h.pairs.most n c (mine n w.up) (mine n w.down) w.server)) is (h.pairs.bounded n)) ino
+
+pub sharers_hold : (script : Script) (steps : List Step) → EachClient Sharer (after (start script) steps)
+sharers_hold script steps = (run (start script) steps (first script)).sharer

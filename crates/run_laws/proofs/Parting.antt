@@ -26,7 +26,8 @@ use Rattle.step_table.specs.World.{to_server as for_server}
 use Rattle.run_laws.specs.Links.{Offer, Up, Behind}
 use Rattle.run_laws.specs.Requests.{answers}
 use Rattle.run_laws.proofs.Asked.{asks_append}
-use Rattle.run_laws.proofs.Files.{Distinct, has_none, has_other, file_same}
+use Rattle.run_laws.specs.Tenures.{Distinct}
+use Rattle.run_laws.proofs.Files.{has_none, has_other, file_same}
 use Rattle.run_laws.proofs.Lending.{AllPlain, Quiet, NotOpen, Ends, AsksNow, drop_list, Returns, LetsGo, gone_same, free_again}
 use Rattle.run_laws.proofs.Link.{up_most}
 use Rattle.run_laws.proofs.Shares.{rank, rank_in, has, found_in, gives, AllGive, give_more, or_none}

@@ -21,27 +21,27 @@ use Rattle.step_table.specs.World.{to_clients, told_to, to_server as for_server}
 use Rattle.run_laws.specs.Links.{mine, mail_of}
 use Rattle.run_laws.specs.Requests.{answers}
 use Rattle.run_laws.specs.Stamps.{told_by}
-use Rattle.run_laws.proofs.Files.{Distinct}
+use Rattle.run_laws.specs.Tenures.{Distinct, AllReleased}
 use Rattle.run_laws.proofs.Holds.{Stays, Sends, Takes}
 use Rattle.run_laws.proofs.Lending.{AllPlain, Quiet, Ends, AsksNow, Returns, LetsGo, drop_list}
 use Rattle.run_laws.proofs.Parting.{no_release, none_give, gives_gone, let_nothing, less_without, none_without, LetSaid}
 use Rattle.run_laws.proofs.Shares.{has, gives, AllGive, or_none}
-use Rattle.run_laws.proofs.Sharing.{gone_in, is_release, Frees, GrantAt, AllGrants, Released, GivesAfter, DownAfter, ToldAfter, MailAfter, LettingAt}
+use Rattle.run_laws.proofs.Sharing.{gone_in, is_release, Frees, GrantAt, AllGrants, GivesAfter, DownAfter, ToldAfter, MailAfter, LettingAt}
 
 -- releases
-pub released_more : (ino : Ino) (few many : ℕ) (kept : List FlushMsg) → few ≤ many → Released ino few kept → Released ino many kept
+pub released_more : (ino : Ino) (few many : ℕ) (kept : List FlushMsg) → few ≤ many → AllReleased ino few kept → AllReleased ino many kept
 released_more ino few many [] less all = tt
 released_more ino few many (f ∷ kept) less all = (λ is. let one = all.0 is in omega (arith, one, less), released_more ino few many kept less all.1)
 
-pub released_filter : (ino : Ino) (last : ℕ) (p : FlushMsg → Bool) (kept : List FlushMsg) → Released ino last kept → Released ino last (filter p kept)
+pub released_filter : (ino : Ino) (last : ℕ) (p : FlushMsg → Bool) (kept : List FlushMsg) → AllReleased ino last kept → AllReleased ino last (filter p kept)
 released_filter ino last p [] all = tt
 released_filter ino last p (f ∷ kept) all = by_test (p f) (released_filter ino last p kept all.1)
   where
-    by_test : (b : Bool) → Released ino last (filter p kept) → Released ino last (cond b (f ∷ filter p kept) (filter p kept))
+    by_test : (b : Bool) → AllReleased ino last (filter p kept) → AllReleased ino last (cond b (f ∷ filter p kept) (filter p kept))
     by_test true rest = (all.0, rest)
     by_test false rest = rest
 
-released_end : (ino : Ino) (last : ℕ) (kept : List FlushMsg) (f : FlushMsg) → (f.release && is_ino ino f.ino) ≡ false → Released ino last kept → Released ino last (kept ++ f ∷ [])
+released_end : (ino : Ino) (last : ℕ) (kept : List FlushMsg) (f : FlushMsg) → (f.release && is_ino ino f.ino) ≡ false → AllReleased ino last kept → AllReleased ino last (kept ++ f ∷ [])
 released_end ino last [] f none all = (λ is. absurd (true≢false (sym is ∙ none)), tt)
 released_end ino last (g ∷ kept) f none all = (all.0, released_end ino last kept f none all.1)
 
@@ -75,7 +75,7 @@ pub after_more : (conn : ℕ) (gone : List Ino) (kept : List FlushMsg) (few many
 after_more conn gone kept few many less [] all = tt
 after_more conn gone kept few many less (m ∷ p) all = (λ ino. either ino (all.0 ino), after_more conn gone kept few many less p all.1)
   where
-    either : (ino : Ino) → (gives conn gone ino m ≡ 0) ⊎ Released ino few kept → (gives conn gone ino m ≡ 0) ⊎ Released ino many kept
+    either : (ino : Ino) → (gives conn gone ino m ≡ 0) ⊎ AllReleased ino few kept → (gives conn gone ino m ≡ 0) ⊎ AllReleased ino many kept
     either ino (inl z) = inl z
     either ino (inr all) = inr (released_more ino few many kept less all)
 
@@ -101,7 +101,7 @@ mail_over Q n conn gone kept conn' gone' kept' entries go (m ∷ mail) each all 
     one to x each after = (each, λ at. tt)
 
 letting_over : (Q : ToClient → Type 0) (n conn : ℕ) (gone : List Ino) (kept : List FlushMsg) (conn' : ℕ) (gone' : List Ino) (files' : HeldFiles) (kept' : List FlushMsg) (down : List ToClient) (entries : List Entry) (durable : ℕ) (mail : List (ℕ × Sent))
-    → Over Q conn gone kept conn' gone' kept' → Each Q (down ++ mail_of n mail) → ((ino : Ino) → (has ino files' ≡ 0) ⊎ Released ino (last_flush (take durable entries) n) kept') → DownAfter conn gone kept (last_flush (take durable entries) n) down → MailAfter n conn gone kept entries mail → LettingAt n conn' gone' files' kept' down entries durable mail
+    → Over Q conn gone kept conn' gone' kept' → Each Q (down ++ mail_of n mail) → ((ino : Ino) → (has ino files' ≡ 0) ⊎ AllReleased ino (last_flush (take durable entries) n) kept') → DownAfter conn gone kept (last_flush (take durable entries) n) down → MailAfter n conn gone kept entries mail → LettingAt n conn' gone' files' kept' down entries durable mail
 letting_over Q n conn gone kept conn' gone' files' kept' down entries durable mail go each held coming post = record {
   held = held;
   coming = down_over Q conn gone kept conn' gone' kept' (last_flush (take durable entries) n) go down (each_front Q down (mail_of n mail) each) coming;
@@ -110,14 +110,14 @@ letting_over Q n conn gone kept conn' gone' files' kept' down entries durable ma
 
 -- where nothing is given any more
 letting_none : (n conn : ℕ) (gone : List Ino) (kept : List FlushMsg) (conn' : ℕ) (gone' : List Ino) (files' : HeldFiles) (kept' : List FlushMsg) (down : List ToClient) (entries : List Entry) (durable : ℕ) (mail : List (ℕ × Sent))
-    → answers conn' (down ++ mail_of n mail) ≡ 0 → ((ino : Ino) → (has ino files' ≡ 0) ⊎ Released ino (last_flush (take durable entries) n) kept') → DownAfter conn gone kept (last_flush (take durable entries) n) down → MailAfter n conn gone kept entries mail → LettingAt n conn' gone' files' kept' down entries durable mail
+    → answers conn' (down ++ mail_of n mail) ≡ 0 → ((ino : Ino) → (has ino files' ≡ 0) ⊎ AllReleased ino (last_flush (take durable entries) n) kept') → DownAfter conn gone kept (last_flush (take durable entries) n) down → MailAfter n conn gone kept entries mail → LettingAt n conn' gone' files' kept' down entries durable mail
 letting_none n conn gone kept conn' gone' files' kept' down entries durable mail none held coming post =
     letting_over (GivesNone conn' gone') n conn gone kept conn' gone' files' kept' down entries durable mail (λ m last zero after ino. inl (zero ino))
     (each_zero conn' gone' (down ++ mail_of n mail) (λ ino. none_give conn' gone' ino (down ++ mail_of n mail) none)) held coming post
 
 -- what a row keeps of the releases that aren't acknowledged
 abbrev pub KeepsReleased : Client → Row Client → Type 0
-KeepsReleased c r = (ino : Ino) (last : ℕ) → list_any (is_release c.conn ino) (for_server r.sent) ≡ false → Released ino last c.unacked → Released ino last r.state.unacked
+KeepsReleased c r = (ino : Ino) (last : ℕ) → list_any (is_release c.conn ino) (for_server r.sent) ≡ false → AllReleased ino last c.unacked → AllReleased ino last r.state.unacked
 
 pub stays_released : (entries : List Entry) (c : Client) (r : Row Client) → Stays entries c r → KeepsReleased c r
 stays_released entries c r stays ino last none all = rw stays.unacked all
@@ -146,7 +146,7 @@ plain_no_release j ino (m ∷ more) all = absurd all.0
 
 -- a row of the client, in what way it is
 pub quiet_letting : (n : ℕ) (c : Client) (r : Row Client) (down : List ToClient) (entries : List Entry) (durable : ℕ) (mail : List (ℕ × Sent)) → Quiet c r → KeepsReleased c r
-    → ((ino : Ino) → (has ino c.files ≡ 0) ⊎ Released ino (last_flush (take durable entries) n) c.unacked) → DownAfter c.conn (gone_in c.under) c.unacked (last_flush (take durable entries) n) down → MailAfter n c.conn (gone_in c.under) c.unacked entries mail
+    → ((ino : Ino) → (has ino c.files ≡ 0) ⊎ AllReleased ino (last_flush (take durable entries) n) c.unacked) → DownAfter c.conn (gone_in c.under) c.unacked (last_flush (take durable entries) n) down → MailAfter n c.conn (gone_in c.under) c.unacked entries mail
     → LettingAt n r.state.conn (gone_in r.state.under) r.state.files r.state.unacked down entries durable mail
 quiet_letting n c r down entries durable mail quiet keeps held coming post = rw (quiet.conn, quiet.under)
     (letting_over (λ m. Unit {0}) n c.conn (gone_in c.under) c.unacked c.conn (gone_in c.under) r.state.files r.state.unacked down entries durable mail (λ m last one after ino. over ino m last (after ino)) (every (down ++ mail_of n mail)) (λ ino. now ino (held ino)) coming post)
@@ -158,16 +158,16 @@ quiet_letting n c r down entries durable mail quiet keeps held coming post = rw 
     every [] = tt
     every (m ∷ p) = (tt, every p)
 
-    over : (ino : Ino) (m : ToClient) (last : ℕ) → (gives c.conn (gone_in c.under) ino m ≡ 0) ⊎ Released ino last c.unacked → (gives c.conn (gone_in c.under) ino m ≡ 0) ⊎ Released ino last r.state.unacked
+    over : (ino : Ino) (m : ToClient) (last : ℕ) → (gives c.conn (gone_in c.under) ino m ≡ 0) ⊎ AllReleased ino last c.unacked → (gives c.conn (gone_in c.under) ino m ≡ 0) ⊎ AllReleased ino last r.state.unacked
     over ino m last (inl zero) = inl zero
     over ino m last (inr all) = inr (keeps ino last (none ino) all)
 
-    now : (ino : Ino) → (has ino c.files ≡ 0) ⊎ Released ino (last_flush (take durable entries) n) c.unacked → (has ino r.state.files ≡ 0) ⊎ Released ino (last_flush (take durable entries) n) r.state.unacked
+    now : (ino : Ino) → (has ino c.files ≡ 0) ⊎ AllReleased ino (last_flush (take durable entries) n) c.unacked → (has ino r.state.files ≡ 0) ⊎ AllReleased ino (last_flush (take durable entries) n) r.state.unacked
     now ino (inl zero) = inl (quiet.modes ino ∙ zero)
     now ino (inr all) = inr (keeps ino (last_flush (take durable entries) n) (none ino) all)
 
-pub ends_letting : (n : ℕ) (c : Client) (gain : Ino → ℕ) (r : Row Client) (down : List ToClient) (entries : List Entry) (durable : ℕ) (mail : List (ℕ × Sent)) → Ends c gain r → KeepsReleased c r → ((ino : Ino) → (gain ino ≡ 0) ⊎ Released ino (last_flush (take durable entries) n) c.unacked) → answers c.conn (down ++ mail_of n mail) ≡ 0
-    → ((ino : Ino) → (has ino c.files ≡ 0) ⊎ Released ino (last_flush (take durable entries) n) c.unacked) → DownAfter c.conn (gone_in c.under) c.unacked (last_flush (take durable entries) n) down → MailAfter n c.conn (gone_in c.under) c.unacked entries mail
+pub ends_letting : (n : ℕ) (c : Client) (gain : Ino → ℕ) (r : Row Client) (down : List ToClient) (entries : List Entry) (durable : ℕ) (mail : List (ℕ × Sent)) → Ends c gain r → KeepsReleased c r → ((ino : Ino) → (gain ino ≡ 0) ⊎ AllReleased ino (last_flush (take durable entries) n) c.unacked) → answers c.conn (down ++ mail_of n mail) ≡ 0
+    → ((ino : Ino) → (has ino c.files ≡ 0) ⊎ AllReleased ino (last_flush (take durable entries) n) c.unacked) → DownAfter c.conn (gone_in c.under) c.unacked (last_flush (take durable entries) n) down → MailAfter n c.conn (gone_in c.under) c.unacked entries mail
     → LettingAt n r.state.conn (gone_in r.state.under) r.state.files r.state.unacked down entries durable mail
 ends_letting n c gain r down entries durable mail ends keeps gained none held coming post = rw ends.conn
     (letting_none n c.conn (gone_in c.under) c.unacked c.conn (gone_in r.state.under) r.state.files r.state.unacked down entries durable mail none (λ ino. now ino (held ino) (gained ino)) coming post)
@@ -175,13 +175,13 @@ ends_letting n c gain r down entries durable mail ends keeps gained none held co
     no : (ino : Ino) → list_any (is_release c.conn ino) (for_server r.sent) ≡ false
     no ino = rw ends.none refl
 
-    now : (ino : Ino) → (has ino c.files ≡ 0) ⊎ Released ino (last_flush (take durable entries) n) c.unacked → (gain ino ≡ 0) ⊎ Released ino (last_flush (take durable entries) n) c.unacked → (has ino r.state.files ≡ 0) ⊎ Released ino (last_flush (take durable entries) n) r.state.unacked
+    now : (ino : Ino) → (has ino c.files ≡ 0) ⊎ AllReleased ino (last_flush (take durable entries) n) c.unacked → (gain ino ≡ 0) ⊎ AllReleased ino (last_flush (take durable entries) n) c.unacked → (has ino r.state.files ≡ 0) ⊎ AllReleased ino (last_flush (take durable entries) n) r.state.unacked
     now ino (inl zero) (inl nothing) = inl (let most = ends.modes ino in omega (arith, zero, nothing, most))
     now ino (inl zero) (inr all) = inr (keeps ino (last_flush (take durable entries) n) (no ino) all)
     now ino (inr all) other = inr (keeps ino (last_flush (take durable entries) n) (no ino) all)
 
 pub asks_letting : (n : ℕ) (c : Client) (r : Row Client) (down : List ToClient) (entries : List Entry) (durable : ℕ) (mail : List (ℕ × Sent)) → AsksNow c r → KeepsReleased c r → answers c.conn (down ++ mail_of n mail) ≡ 0
-    → ((ino : Ino) → (has ino c.files ≡ 0) ⊎ Released ino (last_flush (take durable entries) n) c.unacked) → DownAfter c.conn (gone_in c.under) c.unacked (last_flush (take durable entries) n) down → MailAfter n c.conn (gone_in c.under) c.unacked entries mail
+    → ((ino : Ino) → (has ino c.files ≡ 0) ⊎ AllReleased ino (last_flush (take durable entries) n) c.unacked) → DownAfter c.conn (gone_in c.under) c.unacked (last_flush (take durable entries) n) down → MailAfter n c.conn (gone_in c.under) c.unacked entries mail
     → LettingAt n r.state.conn (gone_in r.state.under) r.state.files r.state.unacked down entries durable mail
 asks_letting n c r down entries durable mail a keeps none held coming post = rw (a.conn, a.files)
     (letting_none n c.conn (gone_in c.under) c.unacked c.conn (gone_in r.state.under) c.files r.state.unacked down entries durable mail none (λ ino. now ino (held ino)) coming post)
@@ -190,17 +190,17 @@ asks_letting n c r down entries durable mail a keeps none held coming post = rw 
     no_drop ino None = refl
     no_drop ino (Some x) = refl
 
-    now : (ino : Ino) → (has ino c.files ≡ 0) ⊎ Released ino (last_flush (take durable entries) n) c.unacked → (has ino c.files ≡ 0) ⊎ Released ino (last_flush (take durable entries) n) r.state.unacked
+    now : (ino : Ino) → (has ino c.files ≡ 0) ⊎ AllReleased ino (last_flush (take durable entries) n) c.unacked → (has ino c.files ≡ 0) ⊎ AllReleased ino (last_flush (take durable entries) n) r.state.unacked
     now ino (inl zero) = inl zero
     now ino (inr all) = inr (keeps ino (last_flush (take durable entries) n) (rw a.sent (no_drop ino a.before)) all)
 
 pub returns_letting : (n : ℕ) (c : Client) (r : Row Client) (down : List ToClient) (entries : List Entry) (durable : ℕ) (mail : List (ℕ × Sent)) → Returns c r → KeepsReleased c r → answers (c.conn + 1) (down ++ mail_of n mail) ≡ 0
-    → ((ino : Ino) → (has ino c.files ≡ 0) ⊎ Released ino (last_flush (take durable entries) n) c.unacked) → DownAfter c.conn (gone_in c.under) c.unacked (last_flush (take durable entries) n) down → MailAfter n c.conn (gone_in c.under) c.unacked entries mail
+    → ((ino : Ino) → (has ino c.files ≡ 0) ⊎ AllReleased ino (last_flush (take durable entries) n) c.unacked) → DownAfter c.conn (gone_in c.under) c.unacked (last_flush (take durable entries) n) down → MailAfter n c.conn (gone_in c.under) c.unacked entries mail
     → LettingAt n r.state.conn (gone_in r.state.under) r.state.files r.state.unacked down entries durable mail
 returns_letting n c r down entries durable mail back keeps none held coming post = rw (back.conn, back.files)
     (letting_none n c.conn (gone_in c.under) c.unacked (c.conn + 1) (gone_in r.state.under) c.files r.state.unacked down entries durable mail none (λ ino. now ino (held ino)) coming post)
   where
-    now : (ino : Ino) → (has ino c.files ≡ 0) ⊎ Released ino (last_flush (take durable entries) n) c.unacked → (has ino c.files ≡ 0) ⊎ Released ino (last_flush (take durable entries) n) r.state.unacked
+    now : (ino : Ino) → (has ino c.files ≡ 0) ⊎ AllReleased ino (last_flush (take durable entries) n) c.unacked → (has ino c.files ≡ 0) ⊎ AllReleased ino (last_flush (take durable entries) n) r.state.unacked
     now ino (inl zero) = inl zero
     now ino (inr all) = inr (keeps ino (last_flush (take durable entries) n) (rw back.says.3 refl) all)
 
@@ -216,15 +216,15 @@ said_release conn files ino x sent (inr said) any = (said.0, subst (λ (y : Ino)
     last_true false b d is = absurd (true≢false (sym is))
 
 pub let_go_letting : (n : ℕ) (c : Client) (r : Row Client) (down : List ToClient) (entries : List Entry) (durable : ℕ) (mail : List (ℕ × Sent)) → LetsGo c r → KeepsReleased c r → Distinct c.files → Frees c.files c.under → AllGrants c.conn c.under (down ++ mail_of n mail) → (open_request c.under ≡ None → answers c.conn (down ++ mail_of n mail) ≡ 0)
-    → ((ino : Ino) → (has ino c.files ≡ 0) ⊎ Released ino (last_flush (take durable entries) n) c.unacked) → DownAfter c.conn (gone_in c.under) c.unacked (last_flush (take durable entries) n) down → MailAfter n c.conn (gone_in c.under) c.unacked entries mail
+    → ((ino : Ino) → (has ino c.files ≡ 0) ⊎ AllReleased ino (last_flush (take durable entries) n) c.unacked) → DownAfter c.conn (gone_in c.under) c.unacked (last_flush (take durable entries) n) down → MailAfter n c.conn (gone_in c.under) c.unacked entries mail
     → LettingAt n r.state.conn (gone_in r.state.under) r.state.files r.state.unacked down entries durable mail
 let_go_letting n c r down entries durable mail go keeps once frees grants none held coming post = rw (go.conn, go.under, go.files) (by_under c.under frees grants none coming post)
   where
-    now : (ino : Ino) → (has ino c.files ≡ 0) ⊎ Released ino (last_flush (take durable entries) n) c.unacked → (has ino (without go.ino c.files) ≡ 0) ⊎ Released ino (last_flush (take durable entries) n) r.state.unacked
+    now : (ino : Ino) → (has ino c.files ≡ 0) ⊎ AllReleased ino (last_flush (take durable entries) n) c.unacked → (has ino (without go.ino c.files) ≡ 0) ⊎ AllReleased ino (last_flush (take durable entries) n) r.state.unacked
     now ino (inl zero) = inl (let few = less_without ino go.ino c.files once in omega (arith, few, zero))
     now ino (inr all) = by_test (list_any (is_release c.conn ino) (for_server r.sent)) refl
       where
-        by_test : (b : Bool) → list_any (is_release c.conn ino) (for_server r.sent) ≡ b → (has ino (without go.ino c.files) ≡ 0) ⊎ Released ino (last_flush (take durable entries) n) r.state.unacked
+        by_test : (b : Bool) → list_any (is_release c.conn ino) (for_server r.sent) ≡ b → (has ino (without go.ino c.files) ≡ 0) ⊎ AllReleased ino (last_flush (take durable entries) n) r.state.unacked
         by_test true any = inl (none_without ino go.ino c.files once (said_release c.conn c.files go.ino ino (for_server r.sent) go.says any).1)
         by_test false any = inr (keeps ino (last_flush (take durable entries) n) any all)
 
@@ -237,10 +237,10 @@ let_go_letting n c r down entries durable mail go keeps once frees grants none h
     by_under (Open number tid text asked gone) frees grants none coming post =
         letting_over (GrantAt c.conn (Open number tid text asked gone)) n c.conn gone c.unacked c.conn (go.ino ∷ gone) (without go.ino c.files) r.state.unacked down entries durable mail (λ m last grant after ino. over ino m last grant (after ino)) (each_grants c.conn (Open number tid text asked gone) (down ++ mail_of n mail) grants) (λ ino. now ino (held ino)) coming post
       where
-        over : (ino : Ino) (m : ToClient) (last : ℕ) → GrantAt c.conn (Open number tid text asked gone) m → (gives c.conn gone ino m ≡ 0) ⊎ Released ino last c.unacked → (gives c.conn (go.ino ∷ gone) ino m ≡ 0) ⊎ Released ino last r.state.unacked
+        over : (ino : Ino) (m : ToClient) (last : ℕ) → GrantAt c.conn (Open number tid text asked gone) m → (gives c.conn gone ino m ≡ 0) ⊎ AllReleased ino last c.unacked → (gives c.conn (go.ino ∷ gone) ino m ≡ 0) ⊎ AllReleased ino last r.state.unacked
         over ino m last grant (inl zero) = inl (let less = gives_gone c.conn go.ino ino gone m in omega (arith, less, zero))
         over ino m last grant (inr all) = by_test (list_any (is_release c.conn ino) (for_server r.sent)) refl
           where
-            by_test : (b : Bool) → list_any (is_release c.conn ino) (for_server r.sent) ≡ b → (gives c.conn (go.ino ∷ gone) ino m ≡ 0) ⊎ Released ino last r.state.unacked
+            by_test : (b : Bool) → list_any (is_release c.conn ino) (for_server r.sent) ≡ b → (gives c.conn (go.ino ∷ gone) ino m ≡ 0) ⊎ AllReleased ino last r.state.unacked
             by_test true any = let at = said_release c.conn c.files go.ino ino (for_server r.sent) go.says any in inl (let zero = let_nothing c.conn c.files number tid text asked gone go.ino ino m at.1 frees.1 grant (inl at.0) in omega (arith, zero))
             by_test false any = inr (keeps ino last any all)

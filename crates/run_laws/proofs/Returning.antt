@@ -33,7 +33,8 @@ use Rattle.run_laws.proofs.Asked.{old_answered}
 use Rattle.run_laws.proofs.Bounding.{NoRise, fall_act, BoundAt, Bounded, buffer_rest}
 use Rattle.run_laws.proofs.Counted.{last_take, last_new}
 use Rattle.run_laws.proofs.Covering.{Owns, Whole, Fine, both_fit, by_whole, Taken, other_file}
-use Rattle.run_laws.proofs.Files.{Distinct, not_held, file_same}
+use Rattle.run_laws.specs.Tenures.{Distinct, AllReleased}
+use Rattle.run_laws.proofs.Files.{not_held, file_same}
 use Rattle.run_laws.proofs.Giving.{MyFit, silent_may, silent_after, sharing_more, letting_send, calm_letting, NotGiving}
 use Rattle.run_laws.proofs.Granting.{treat_my}
 use Rattle.run_laws.proofs.Knowing.{Knows, KnownFits, flushing_known, flushing_fit, ruled_fit, one_knows, BroughtCap, brought_cap, brought_more, welcome_knows, take_in_knows, row_if, and_true, grown_all}
@@ -45,7 +46,7 @@ use Rattle.run_laws.proofs.Parting.{none_give, none_grants}
 use Rattle.run_laws.proofs.Requested.{Asking, asking, requested}
 use Rattle.run_laws.proofs.Ruled.{IsFlushing, flushing_back, ruled_treat}
 use Rattle.run_laws.proofs.Shares.{rank, rank_in, has, share, shares, give_more, or_none, shares_end, shares_filter, shares_others, shares_same}
-use Rattle.run_laws.proofs.Sharing.{gone_in, is_drop, Lets, Released, Covered, CoverBy, SharesAt, Sharing, Letting}
+use Rattle.run_laws.proofs.Sharing.{gone_in, is_drop, Lets, Covered, CoverBy, SharesAt, Sharing, Letting}
 use Rattle.run_laws.proofs.Taking.{Fits, Flushes, ruled, connect_taken}
 use Rattle.run_laws.proofs.ViewActs.{AnyOf, any_of}
 use Rattle.run_laws.proofs.Views.{Server's}
@@ -242,17 +243,17 @@ left_taken n low files t f free was = by_test (nat_le f.number (last_flush t.ent
     by_test true test = was
     by_test false test = settles (above test) f.release refl
 
-brought_left : (n low : ℕ) (files : HeldFiles) (fs : List FlushMsg) (t : Server) → ((ino : Ino) → (has ino files ≡ 0) ⊎ Released ino low fs) → Left n low files t → Left n low files (acts t (each (take_brought n) t fs))
+brought_left : (n low : ℕ) (files : HeldFiles) (fs : List FlushMsg) (t : Server) → ((ino : Ino) → (has ino files ≡ 0) ⊎ AllReleased ino low fs) → Left n low files t → Left n low files (acts t (each (take_brought n) t fs))
 brought_left n low files [] t free was = was
 brought_left n low files (f ∷ fs) t free was =
     subst (Left n low files) (sym (acts_append (take_brought n t f) (each (take_brought n) (acts t (take_brought n t f)) fs) t))
     (brought_left n low files fs (acts t (take_brought n t f)) (λ ino. later ino (free ino)) one)
   where
-    later : (ino : Ino) → (has ino files ≡ 0) ⊎ Released ino low (f ∷ fs) → (has ino files ≡ 0) ⊎ Released ino low fs
+    later : (ino : Ino) → (has ino files ≡ 0) ⊎ AllReleased ino low (f ∷ fs) → (has ino files ≡ 0) ⊎ AllReleased ino low fs
     later ino (inl z) = inl z
     later ino (inr all) = inr all.1
 
-    first : (ino : Ino) → (has ino files ≡ 0) ⊎ Released ino low (f ∷ fs) → (has ino files ≡ 0) ⊎ ((f.release && is_ino ino f.ino) ≡ true → f.number ≤ low)
+    first : (ino : Ino) → (has ino files ≡ 0) ⊎ AllReleased ino low (f ∷ fs) → (has ino files ≡ 0) ⊎ ((f.release && is_ino ino f.ino) ≡ true → f.number ≤ low)
     first ino (inl z) = inl z
     first ino (inr all) = inr all.0
 
@@ -298,7 +299,7 @@ shares_left n ino (h ∷ holders) = by_test (h.client == n) refl (shares_left n 
     by_test true is rest = rest
     by_test false is rest = rw is (omega (arith, rest))
 
-pub back_shares : (n low : ℕ) (files : HeldFiles) (kept : List FlushMsg) (s : Server) → Distinct files → ClearOf n s.holders files → low ≤ last_flush s.entries n → ((ino : Ino) → (has ino files ≡ 0) ⊎ Released ino low kept) → (ino : Ino) → shares n ino (acts s (come_back s n (claims files) kept)).holders ≡ has ino files
+pub back_shares : (n low : ℕ) (files : HeldFiles) (kept : List FlushMsg) (s : Server) → Distinct files → ClearOf n s.holders files → low ≤ last_flush s.entries n → ((ino : Ino) → (has ino files ≡ 0) ⊎ AllReleased ino low kept) → (ino : Ino) → shares n ino (acts s (come_back s n (claims files) kept)).holders ≡ has ino files
 back_shares n low files kept s once clear less free ino = subst (λ (t : Server). shares n ino t.holders ≡ has ino files) (sym (acts_append (each (take_claim n) t (claims files)) (each (take_brought n) u kept) t))
     (let most = fall_acts n ino (each (take_brought n) u kept) u (brought_fall n kept u) in
     let least = (brought_left n low files kept u free (record { last = subst (λ (l : List Entry). low ≤ last_flush l n) (sym (claims_entries n (claims files) t)) less; cover = λ x. let e = claimed_now x in omega (arith, e) })).cover ino in

@@ -34,7 +34,8 @@ use Rattle.run_laws.proofs.Asked.{old_answered}
 use Rattle.run_laws.proofs.Bounding.{BoundAt, Bounded, Rising}
 use Rattle.run_laws.proofs.Counted.{last_take, last_longer}
 use Rattle.run_laws.proofs.Covering.{Owns, Whole, Fine, both_fit, by_whole, hands_owns, Taken, popped_with, own_ask, own_drop, own_flush}
-use Rattle.run_laws.proofs.Files.{Distinct, distinct_without}
+use Rattle.run_laws.specs.Tenures.{Distinct, AllReleased}
+use Rattle.run_laws.proofs.Files.{distinct_without}
 use Rattle.run_laws.proofs.Giving.{MyFit, send_sharing, letting_send}
 use Rattle.run_laws.proofs.Granting.{treat_my, reported_my, restarts_my, turn_my, flush_other, drop_other, back_other}
 use Rattle.run_laws.proofs.Growing.{room, take_take}
@@ -51,7 +52,7 @@ use Rattle.run_laws.proofs.Requested.{Asking, asking, requested, none_open, answ
 use Rattle.run_laws.proofs.Returning.{Clear, own_connect}
 use Rattle.run_laws.proofs.Ruled.{CapAt, ruled_treat, ruled_drop, ruled_reported, ruled_restarts, flushing_flush, flushing_back}
 use Rattle.run_laws.proofs.Shares.{has, shares, give_front, give_more}
-use Rattle.run_laws.proofs.Sharing.{gone_in, AllGrants, DownAfter, Released, Covered, CoverBy, SharesAt, Sharing, Letting}
+use Rattle.run_laws.proofs.Sharing.{gone_in, AllGrants, DownAfter, Covered, CoverBy, SharesAt, Sharing, Letting}
 use Rattle.run_laws.proofs.Taking.{All, Flushes, Fits, ruled, flushed, same_way, turn_fit, welcomed_other}
 use Rattle.run_laws.proofs.Taking.{durable as flushes_durable, survives as flushes_survive}
 use Rattle.run_laws.proofs.ViewActs.{AnyOf, any_of}
@@ -215,7 +216,7 @@ durable_whole T n c up down s q = (
     less : last_flush (take s.durable s.entries) n ≤ last_flush (take (length s.entries) s.entries) n
     less = let e = now in let few = last_take n s.durable s.entries q.0.1.counted in omega (arith, e, few)
 
-    held : (ino : Ino) → (has ino c.files ≡ 0) ⊎ Released ino (last_flush (take s.durable s.entries) n) c.unacked → (has ino c.files ≡ 0) ⊎ Released ino (last_flush (take (length s.entries) s.entries) n) c.unacked
+    held : (ino : Ino) → (has ino c.files ≡ 0) ⊎ AllReleased ino (last_flush (take s.durable s.entries) n) c.unacked → (has ino c.files ≡ 0) ⊎ AllReleased ino (last_flush (take (length s.entries) s.entries) n) c.unacked
     held ino (inl z) = inl z
     held ino (inr all) = inr (released_more ino (last_flush (take s.durable s.entries) n) (last_flush (take (length s.entries) s.entries) n) c.unacked less all)
 
@@ -240,7 +241,7 @@ left_whole T n c up down s k fits b = (
     less : last_flush (take s.durable s.entries) n ≤ last_flush (take (s.durable + k) (take (s.durable + k) s.entries)) n
     less = let same = ap (λ (l : List Entry). last_flush l n) (take_take (s.durable + k) (s.durable + k) s.entries (omega arith) (room k s fits b.0.0.1.fits)) in let low = last_longer n s.durable (s.durable + k) s.entries (omega arith) (room k s fits b.0.0.1.fits) b.0.0.1.counted in omega (arith, same, low)
 
-    held : (ino : Ino) → (has ino c.files ≡ 0) ⊎ Released ino (last_flush (take s.durable s.entries) n) c.unacked → (has ino c.files ≡ 0) ⊎ Released ino (last_flush (take (s.durable + k) (take (s.durable + k) s.entries)) n) c.unacked
+    held : (ino : Ino) → (has ino c.files ≡ 0) ⊎ AllReleased ino (last_flush (take s.durable s.entries) n) c.unacked → (has ino c.files ≡ 0) ⊎ AllReleased ino (last_flush (take (s.durable + k) (take (s.durable + k) s.entries)) n) c.unacked
     held ino (inl z) = inl z
     held ino (inr all) = inr (released_more ino (last_flush (take s.durable s.entries) n) (last_flush (take (s.durable + k) (take (s.durable + k) s.entries)) n) c.unacked less all)
 

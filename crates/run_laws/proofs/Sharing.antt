@@ -21,6 +21,7 @@ use Rattle.step_table.specs.ClientState.{Under, Open}
 use Rattle.run_laws.specs.Links.{View, mail_of}
 use Rattle.run_laws.specs.Requests.{asks}
 use Rattle.run_laws.specs.Stamps.{told_by}
+use Rattle.run_laws.specs.Tenures.{AllReleased}
 use Rattle.run_laws.proofs.Shares.{has, shares, gives, AllGive}
 
 -- the files that were let go since the open request was sent
@@ -81,14 +82,9 @@ abbrev pub AllGrants : ℕ → Under → List ToClient → Type 0
 AllGrants conn under [] = Unit {0}
 AllGrants conn under (m ∷ down) = GrantAt conn under m × AllGrants conn under down
 
--- the releases of a file are numbered up to this
-abbrev pub Released : Ino → ℕ → List FlushMsg → Type 0
-Released ino last [] = Unit {0}
-Released ino last (f ∷ flushes) = ((f.release && is_ino ino f.ino) ≡ true → f.number ≤ last) × Released ino last flushes
-
 -- where a file is held or given, its releases are entered
 abbrev pub GivesAfter : ℕ → List Ino → List FlushMsg → ℕ → ToClient → Type 0
-GivesAfter conn gone kept last m = (ino : Ino) → (gives conn gone ino m ≡ 0) ⊎ Released ino last kept
+GivesAfter conn gone kept last m = (ino : Ino) → (gives conn gone ino m ≡ 0) ⊎ AllReleased ino last kept
 
 abbrev pub DownAfter : ℕ → List Ino → List FlushMsg → ℕ → List ToClient → Type 0
 DownAfter conn gone kept last [] = Unit {0}
@@ -131,7 +127,7 @@ Sharing n c up down s =
 
 -- Where a file is held, or given, its releases are durable, or entered when it was given.
 pub record LettingAt (n conn : ℕ) (gone : List Ino) (files : HeldFiles) (kept : List FlushMsg) (down : List ToClient) (entries : List Entry) (durable : ℕ) (mail : List (ℕ × Sent)) : Type 0 where
-  pub held : (ino : Ino) → (has ino files ≡ 0) ⊎ Released ino (last_flush (take durable entries) n) kept
+  pub held : (ino : Ino) → (has ino files ≡ 0) ⊎ AllReleased ino (last_flush (take durable entries) n) kept
   pub coming : DownAfter conn gone kept (last_flush (take durable entries) n) down
   pub post : MailAfter n conn gone kept entries mail
 

@@ -2,6 +2,7 @@
 //! no body, and their contracts are the laws.
 #![tactic(auto)]
 
+mod answers;
 mod entries;
 mod flushes;
 mod journal;
@@ -12,8 +13,14 @@ mod snapshots;
 mod stamps;
 mod steps;
 mod tables;
+mod tenures;
 mod writers;
 
+pub use answers::{
+    a_capability_is_asked_for_by_a_line, a_client_has_open_what_the_journal_says,
+    a_reply_is_the_kept_answer, an_effect_is_of_its_request,
+    an_effect_that_is_not_durable_is_of_the_open_request, effects_have_numbers_that_were_given,
+};
 pub use entries::{effects_are_of_clients, what_is_entered_is_a_journal};
 pub use flushes::{
     a_flush_comes_once_a_connection, a_flush_is_written_as_it_was_sent, flush_numbers_have_no_gap,
@@ -32,5 +39,10 @@ pub use steps::a_history_is_determined_by_its_steps;
 pub use tables::{
     a_file_has_one_writer, ids_are_given_in_order, one_operation_at_a_time,
     what_is_purged_was_removed,
+};
+pub use tenures::{
+    a_file_is_held_again_after_its_release, the_table_covers_what_is_held,
+    the_table_is_of_connected_clients, what_is_held_was_made, what_waits_may_wait,
+    who_waits_for_a_file_has_it_recalled,
 };
 pub use writers::a_file_has_one_writer_among_the_clients;

@@ -1,0 +1,54 @@
+// Which files are held, and by whom.
+ghost use Rattle.std.specs.Prelude.{List};
+ghost use Rattle.plain_types.specs.declared.history.Event.{Event};
+ghost use Rattle.plain_types.specs.declared.script.Script.{Script};
+ghost use Rattle.step_table.specs.Legal.{Legal};
+ghost use Rattle.run_laws.specs.Moments.{world_after};
+ghost use Rattle.run_laws.specs.Links.{EachClient};
+ghost use Rattle.run_laws.specs.Tenures.{HeldIsMade, HeldOnce, GivenIsMade, AllHoldMade, EachOnce, AllAskMade, HeldMayWait, TableCovers, HeldAfterRelease, SomeIsRecalled};
+
+/// What a client holds, and what a message on its way to it gives it, is a file that the durable entries made: no restart
+/// unmakes a file that is held. A client holds a file once.
+pub fn what_is_held_was_made()
+    ensures held { (script : Script) (history : List Event) → Legal history script → EachClient HeldIsMade (world_after script history) }
+    ensures once { (script : Script) (history : List Event) → Legal history script → EachClient HeldOnce (world_after script history) }
+    ensures given { (script : Script) (history : List Event) → Legal history script → EachClient GivenIsMade (world_after script history) }
+{}
+
+/// Who holds a file in the server's table is connected, and the file is one that the server's entries made; the table has a
+/// client and a file once. The same is so of the requests that the server holds or defers: who asks is connected, and a
+/// capability is asked for a file that was made.
+pub fn the_table_is_of_connected_clients()
+    ensures holders { (script : Script) (history : List Event) → Legal history script
+        → AllHoldMade (world_after script history).server.entries (world_after script history).server.current (world_after script history).server.holders }
+    ensures once { (script : Script) (history : List Event) → Legal history script → EachOnce (world_after script history).server.holders }
+    ensures held { (script : Script) (history : List Event) → Legal history script
+        → AllAskMade (world_after script history).server.entries (world_after script history).server.current (world_after script history).server.held }
+    ensures deferred { (script : Script) (history : List Event) → Legal history script
+        → AllAskMade (world_after script history).server.entries (world_after script history).server.current (world_after script history).server.deferred }
+{}
+
+/// Where all clients are connected, the server holds requests for capabilities, `cat`, `stat` and barriers alone: all others
+/// are answered or deferred when they are taken. A barrier that is held has a number above the last one that was opened.
+pub fn what_waits_may_wait()
+    ensures { (script : Script) (history : List Event) → Legal history script → EachClient HeldMayWait (world_after script history) }
+{}
+
+/// The server knows of what is held: where it has a connection of a client, its table has that client with each file that
+/// the client holds, and with each that a message of the client's connection grants it, sent or not, for Write where the
+/// file is held or granted for Write.
+pub fn the_table_covers_what_is_held()
+    ensures { (script : Script) (history : List Event) → Legal history script → EachClient TableCovers (world_after script history) }
+{}
+
+/// A client holds a file again only when its release is durable: where it holds a file, all its earlier releases of the file
+/// that aren't acknowledged are among the durable entries.
+pub fn a_file_is_held_again_after_its_release()
+    ensures { (script : Script) (history : List Event) → Legal history script → EachClient HeldAfterRelease (world_after script history) }
+{}
+
+/// Nobody waits for a file for nothing: where all clients are connected and the server holds a request for a capability, a
+/// `cat` or a `stat`, some holder has been asked to give its file back.
+pub fn who_waits_for_a_file_has_it_recalled()
+    ensures { (script : Script) (history : List Event) → Legal history script → EachClient SomeIsRecalled (world_after script history) }
+{}
