@@ -1,139 +1,205 @@
--- The server's event of a line is the plain tree's, and what the server then has stands for the effects so far.
-use Rattle.std.proofs.Common.{◌≡◌, ℕ, ◌+◌, ◌<◌, ◌≤◌, List, [], ◌∷◌, ◌++◌, length, Bool, true, false, cond, Option, None, Some, get_or, take, refl, sym, ap, ◌∙◌, subst, arith, append_assoc, length-append}
-use Rattle.std.proofs.lemmas.List.{append-nil, length-map, length-take-le, take_more, take_all}
-use Rattle.std.proofs.lemmas.Grind.{flat_map-append}
+-- The server's event of a line is what the entries so far ask for, and what the server then has stands for one entry more.
+use Rattle.std.proofs.Common.{◌≡◌, ℕ, zero, suc, ◌+◌, ◌<◌, ◌≤◌, List, [], ◌∷◌, ◌++◌, length, Bool, true, false, cond, Option, None, Some, Result, Ok, Err, get_or, take, refl, sym, ap, ◌∙◌, subst, arith, append_assoc, length-append}
+use Rattle.std.proofs.lemmas.List.{append-nil, length-take-le, take_more, take_all}
 use Rattle.std.proofs.lemmas.Bool.Decides.{nat_tests}
-use borrow.Author.Tests.{ltb-true}
-use Rattle.std.specs.Prelude.{◌&&◌, nat_lt, is_some, find, map}
-use Rattle.std.specs.List.{AllByRecursion}
+use Rattle.std.specs.Prelude.{◌&&◌, nat_lt, is_some, IfOk}
 use Rattle.snap_ids.specs.declared.id.Ino.{Ino}
 use Rattle.snap_ids.specs.declared.id.SnapId.{SnapId}
-use Rattle.snap_ids.specs.declared.id.TheConstants.{NOSNAP}
+use Rattle.snap_ids.specs.Path.{Place, Live, Snaps, InSnap, place_of}
+use Rattle.plain_types.specs.declared.answer.Answer.{Answer}
+use Rattle.plain_types.specs.declared.answer.Answer.TheVariants.{Refused}
+use Rattle.plain_types.specs.declared.answer.Refusal.{Refusal}
 use Rattle.plain_types.specs.declared.change.Change.{Change}
-use Rattle.plain_types.specs.declared.change.Change.TheVariants.{Mkdir, Mksnap}
-use Rattle.plain_types.specs.declared.change.Effect.{Effect}
+use Rattle.plain_types.specs.declared.change.Change.TheVariants as change
+use Rattle.plain_types.specs.declared.entry.Entry.{Entry}
+use Rattle.plain_types.specs.declared.entry.What.{What}
+use Rattle.plain_types.specs.declared.entry.What.TheVariants as what
 use Rattle.plain_types.specs.declared.history.Event.{Event}
+use Rattle.plain_types.specs.declared.request.Query.{Query}
+use Rattle.plain_types.specs.declared.request.Query.TheVariants as query
+use Rattle.plain_types.specs.declared.request.Request.{Request}
+use Rattle.plain_types.specs.declared.request.Request.TheVariants as request
 use Rattle.plain_types.specs.declared.script.Line.{Line}
-use Rattle.plain_tree.specs.State.{Entry, Snapshot, is_named}
-use Rattle.direct_history.specs.Walk.{next_snap}
-use Rattle.direct_history.specs.Change.{state_after}
-use Rattle.direct_history.specs.Line.{change_of, list_from}
-use Rattle.direct_history.specs.History.{effects, before_snap}
-use Rattle.direct_history.specs.Direct.{tree_so_far, ServesAfter, OfOneClient}
-use Rattle.direct_history.specs.Legal.{Asked, one_more, numbered_after, numbered, IsServed, line_answer, change_by, effects_of, snap_named}
-use Rattle.dentry_tree.specs.Dentries.{newest}
-use Rattle.snap_run.specs.Direct.{StandsFor, IsGiven, applied_of}
-use Rattle.snap_run.specs.declared.direct.Direct.{Direct}
-use Rattle.snap_run.specs.declared.direct.TheConstants.{LIMIT}
-use Rattle.snap_run.specs.Server.{IsSettled, seen, entries_of, snaps_of, live_of, tree_of, count_of, has_room, Makes}
-use Rattle.snap_run.proofs.Allowed.{allowed}
-use Rattle.snap_run.proofs.Plain.{kinds_after}
-use Rattle.snap_run.proofs.Stands.{shows, stands_first, stands_mkdir, stands_mksnap}
-use Rattle.snap_run.proofs.Views.{SameView, list_same, decide_same, next_snap_same, answer_same}
+use Rattle.plain_types.specs.declared.script.Line.TheVariants as line
+use Rattle.plain_tree.specs.Line.{request_of, server_change, change_answer, answer_to as answer_to_change}
+use Rattle.plain_tree.specs.Query.{Found, InLive, found_at}
+use Rattle.plain_tree.specs.Request.{change_asked, and_then, tree_of, walk_live}
+use Rattle.plain_journal.specs.Answers.{found, answer_to}
+use Rattle.plain_journal.specs.Entries.{change_in, state_after, tree_at, applied}
+use Rattle.plain_journal.specs.Legal.{is_given, is_legal}
+use Rattle.plain_journal.specs.Realms.{shown}
+use Rattle.direct_journal.specs.Direct.{comes_to, told, answer_after, IsServedBy, ServesAfter, OfOneClient}
+use Rattle.direct_journal.specs.Journal.{what_of, entry_of, entries_in, journal_of, next_snap}
+use Rattle.direct_journal.specs.Legal.{Asked, one_more, numbered_after, numbered, success, outcome_answer, effects_of}
+use Rattle.direct_journal.specs.Served.{is_live_place, is_served}
+use Rattle.direct_journal.proofs.More.{serves_push, journal_push}
+use Rattle.meta_state.specs.declared.decide.Decision.{Decision}
+use Rattle.meta_state.specs.declared.decide.Decision.TheVariants.{Put, Say}
+use Rattle.meta_state.specs.Decisions.{IsWritten, IsPut, IsAnswer, CanHaveId, is_free_id, IsLegal, query_of}
+use Rattle.meta_state.specs.Queries.{IsFoundPast, IsPast}
+use Rattle.meta_state.specs.Stands.{Tables, StandsFor}
+use Rattle.snap_run.specs.Event.{event_of, made_by, said_by}
 
--- a server stands for these effects
-abbrev pub Stands : Direct → List Effect → Type 0
-Stands server done = StandsFor (entries_of server) (snaps_of server) server.made done
+-- what is written down of a change is what said it
+said_again : (said : What) (made : Change) → change_in said ≡ Some made → what_of made ≡ Some said
+said_again (what.Mkdir dir name ino) made is = cc
+said_again (what.Create dir name ino mode) made is = cc
+said_again (what.Link ino dir name) made is = cc
+said_again (what.Unlink dir name) made is = cc
+said_again (what.Rmdir dir name) made is = cc
+said_again (what.Rename dir name to_dir to_name) made is = cc
+said_again (what.Chmod ino mode) made is = cc
+said_again (what.OpenFile handle ino writable) made is = cc
+said_again (what.CloseFile handle) made is = cc
+said_again (what.Mksnap id dir name) made is = cc
+said_again (what.Rmsnap id) made is = cc
+said_again other made is = cc
 
--- what is found in a list is as each of the list
-found_is : (P : Snapshot → Type 0) (test : Snapshot → Bool) (snaps : List Snapshot) (snap : Snapshot) → AllByRecursion P snaps → find test snaps ≡ Some snap → P snap
-found_is P test [] snap all found = cc
-found_is P test (first ∷ snaps) snap all found =
-    elim (test first) as (λ b. cond b (Some first) (find test snaps) ≡ Some snap → P snap) [
-      | true ↦ λ here. let same : first ≡ snap = cc in subst P same all.0
-      | false ↦ λ later. found_is P test snaps snap all.1 later
-    ] found
+-- what is asked of a live path asks for no size in a snapshot
+live_is_past : (entries : List Entry) (place : Place) → is_live_place place ≡ true → IsFoundPast entries (found_at (shown entries) (tree_at entries) (state_after entries) place)
+live_is_past entries (Live path) live = by_walk (walk_live (tree_of (state_after entries)) path)
+  where
+    by_walk : (end : Result Ino Refusal) → IsFoundPast entries (and_then end (λ ino. Ok (InLive ino)))
+    by_walk (Ok ino) = tt
+    by_walk (Err refusal) = tt
+live_is_past entries (Snaps dir) live = cc
+live_is_past entries (InSnap dir name below) live = cc
 
-module _ (server : Direct) (done : List Effect) (few : applied_of (snaps_of server) < NOSNAP.0) (stands : Stands server done) where
-  same : SameView (live_of server) (state_after done)
-  same = shows (entries_of server) (snaps_of server) server.made done few stands
+-- the clauses of a decision on what a client is asked after the entries
+pub record IsDecided (entries : List Entry) (client number : ℕ) (id : SnapId) (asked : Request) (decision : Decision) : Type 0 where
+  pub written : (made : Change) → change_asked (state_after entries) client id asked ≡ Some (Ok made) → IsPut client number made decision
+  pub refused : (refusal : Refusal) → change_asked (state_after entries) client id asked ≡ Some (Err refusal) → decision ≡ Say (Refused refusal)
+  pub answered : change_asked (state_after entries) client id asked ≡ None → IsAnswer entries (query_of asked) decision
+  pub legal : IsLegal entries id decision
 
-  -- the change is the plain state's
-  pub change_is : (line : Line) → change_by (live_of server) line ≡ change_by (state_after done) line
-  change_is line = λ i. change_of (decide_same (live_of server) (state_after done) same (next_snap_same (live_of server) (state_after done) same i) line i)
+module _ (entries : List Entry) (client number : ℕ) (id : SnapId) (asked : Request) (decision : Decision) (decided : IsDecided entries client number id asked decision) where
+  abbrev planned : Option (Result Change Refusal)
+  planned = change_asked (state_after entries) client id asked
 
-  -- so is the answer
-  answer_is : (client : ℕ) (line : Line) → line_answer (live_of server) (tree_of server) client line ≡ line_answer (state_after done) (tree_so_far done) client line
-  answer_is client line = answer_same (live_of server) (state_after done) same (tree_of server) (tree_so_far done) agree client line
+  -- the change that is made is what the request comes to
+  made_as : (plan : Option (Result Change Refusal)) → planned ≡ plan → made_by decision ≡ success plan
+  made_as (Some (Ok made)) is = by_decision decision (decided.written made is)
     where
-      agree : (dir : Ino) (name : List ℕ) (snap : Snapshot) → snap_named (snaps_of server) dir name ≡ Some snap → (from : Ino) (path : List (List ℕ)) → list_from (tree_of server snap.id) from path ≡ list_from (tree_so_far done snap.id) from path
-      agree dir name snap found from path =
-          list_same (tree_of server snap.id) (tree_so_far done snap.id) (stands.past snap.id (found_is (λ (x : Snapshot). IsGiven (snaps_of server) x.id) (is_named dir name) (snaps_of server) snap stands.ids found)) (λ ino. sym (kinds_after (before_snap snap.id done) ino)) from path
-
-  -- the server's event of a line is the plain tree's
-  pub served_is : (asked : Asked) (event : Event) → IsServed (live_of server) (tree_of server) (count_of server) asked event → IsServed (state_after done) (tree_so_far done) (length done) asked event
-  served_is asked event served = record {
-    served = served.served;
-    node = served.node;
-    step = served.step;
-    taken = served.taken;
-    sent = served.sent;
-    effects = served.effects ∙ (λ i. effects_of asked.client (count_is i) (change_is asked.line i));
-    replies = served.replies ∙ (λ i. record {
-      client = asked.client;
-      line = asked.number;
-      changed = is_some (change_is asked.line i);
-      entry = count_is i;
-      answer = answer_is asked.client asked.line i;
-    } ∷ []);
-  }
+      by_decision : (d : Decision) → IsPut client number made d → made_by d ≡ Some made
+      by_decision (Put entry) put = put.says
+      by_decision (Say answer) put = absurd put
+  made_as (Some (Err refusal)) is = ap made_by (decided.refused refusal is)
+  made_as None is = by_decision decision (decided.answered is)
     where
-      count_is : count_of server ≡ length done
-      count_is = sym stands.count
+      by_decision : (d : Decision) → IsAnswer entries (query_of asked) d → made_by d ≡ None
+      by_decision (Put entry) answer = absurd answer
+      by_decision (Say answer) known = refl
 
--- the same fields stand for the same effects
-stands_same : (entries next : SnapId → List Entry) (snaps after : List Snapshot) (made more : ℕ) (done : List Effect) → ((s : SnapId) → next s ≡ entries s) → after ≡ snaps → more ≡ made → StandsFor entries snaps made done → StandsFor next after more done
-stands_same entries next snaps after made more done entries_same snaps_same made_same stands =
-    let all_same : entries ≡ next = λ i s. sym (entries_same s) i in
-    subst (λ (m : ℕ). StandsFor next after m done) (sym made_same)
-    (subst (λ (l : List Snapshot). StandsFor next l made done) (sym snaps_same)
-    (subst (λ (f : SnapId → List Entry). StandsFor f snaps made done) all_same stands))
+  -- so is what its client is told of it
+  said_as : (plan : Result Change Refusal) → planned ≡ Some plan → said_by decision ≡ change_answer plan
+  said_as (Ok made) is = by_decision decision (decided.written made is)
+    where
+      by_decision : (d : Decision) → IsPut client number made d → said_by d ≡ answer_to_change made
+      by_decision (Put entry) put = rw (put.says) refl
+      by_decision (Say answer) put = absurd put
+  said_as (Err refusal) is = ap said_by (decided.refused refusal is)
 
-module _ (old new : Direct) (done : List Effect) (few : applied_of (snaps_of old) + 1 < NOSNAP.0) (stands : Stands old done) (asked : Asked) where
-  abbrev pub client : ℕ
-  client = asked.client
+  -- a query is answered as it is after the entries
+  queried_as : (wanted : Query) → planned ≡ None → query_of asked ≡ Some wanted → IsPast entries wanted → said_by decision ≡ told (answer_to entries wanted)
+  queried_as wanted is asks past = by_decision decision (subst (λ (q : Option Query). IsAnswer entries q decision) asks (decided.answered is))
+    where
+      by_decision : (d : Decision) → IsAnswer entries (Some wanted) d → said_by d ≡ told (answer_to entries wanted)
+      by_decision (Put entry) answer = absurd answer
+      by_decision (Say answer) known = ap told (known past)
 
-  abbrev pub line : Line
-  line = asked.line
+some_is : {A : Type 0} (a b : A) → Some a ≡ Some b → b ≡ a
+some_is a b is = cc
 
-  stands_by : (o : Option Change) → change_by (state_after done) line ≡ o → Makes old new o → Stands new (done ++ effects_of client (length done) o)
-  stands_by (Some (Mkdir dir name ino)) is puts =
-      let effect : Effect = record { client = client; entry = length done + 1; change = Mkdir dir name ino } in
-      let able = allowed done (next_snap (state_after done)) line (Mkdir dir name ino) is in
-      stands_same (entries_of new) (entries_of new) (snaps_of old) (snaps_of new) (old.made + 1) new.made (done ++ effect ∷ []) (λ s. refl) puts.snaps puts.made
-      (stands_mkdir (entries_of old) (snaps_of old) old.made done stands effect dir name ino refl able.taken (entries_of new) puts.earlier puts.later)
-  stands_by (Some (Mksnap id dir name)) is puts =
-      let effect : Effect = record { client = client; entry = length done + 1; change = Mksnap id dir name } in
-      let snap : Snapshot = record { id = id; root = dir; name = name; live = true } in
-      let able = allowed done (next_snap (state_after done)) line (Mksnap id dir name) is in
-      let number : id.0 ≡ 2 + length (snaps_of old) = ap (λ (s : SnapId). s.0) able.has_id ∙ ap (λ (l : List Snapshot). 2 + length l) stands.listed in
-      stands_same (entries_of old) (entries_of new) (snaps_of old ++ snap ∷ []) (snaps_of new) old.made new.made (done ++ effect ∷ []) puts.entries puts.snaps puts.made
-      (stands_mksnap (entries_of old) (snaps_of old) old.made done stands effect id dir name refl able.taken (omega (arith, number)) (omega (arith, number, few)))
-  stands_by None is stays =
-      rw append-nil (stands_same (entries_of old) (entries_of new) (snaps_of old) (snaps_of new) old.made new.made done stays.entries stays.snaps stays.made stands)
-  stands_by (Some change) is stays = let able = allowed done (next_snap (state_after done)) line change is in cc (able.taken)
+module _ (entries : List Entry) (client number : ℕ) (decision : Decision) where
+  abbrev Decided : Request → Type 0
+  Decided asked = IsDecided entries client number (next_snap entries) asked decision
 
-  -- after the event of a line the server stands for one more effect, where the line made a change
-  pub stands_after : (event : Event) → IsServed (state_after done) (tree_so_far done) (length done) asked event → Makes old new (change_by (live_of old) line) → Stands new (done ++ event.effects)
-  stands_after event served makes =
-      rw (served.effects)
-      (stands_by (change_by (state_after done) line) refl (subst (Makes old new) (change_is old done (omega (arith, few)) stands line) makes))
+  said_of : (asked : Request) (plan : Result Change Refusal) → Decided asked → change_asked (state_after entries) client (next_snap entries) asked ≡ Some plan → said_by decision ≡ change_answer plan
+  said_of asked plan decided is = said_as entries client number (next_snap entries) asked decision decided plan is
 
--- the event serves the line after these effects
-abbrev ServedAfter : List Effect → Asked → Event → Type 0
-ServedAfter done asked event = IsServed (state_after done) (tree_so_far done) (length done) asked event
+  queried : (asked : Request) (wanted : Query) → Decided asked → change_asked (state_after entries) client (next_snap entries) asked ≡ None → query_of asked ≡ Some wanted → IsPast entries wanted → said_by decision ≡ told (answer_to entries wanted)
+  queried asked wanted decided is asks past = queried_as entries client number (next_snap entries) asked decision decided wanted is asks past
 
--- one more line is served after the others
-pub serves_push : (done : List Effect) (lines : List Asked) (events : List Event) (asked : Asked) (event : Event) → ServesAfter done lines events → ServedAfter (done ++ effects events) asked event → ServesAfter done (lines ++ asked ∷ []) (events ++ event ∷ [])
-serves_push done [] [] asked event after served =
-    (subst (λ (l : List Effect). ServedAfter l asked event) (append-nil done) served, tt)
-serves_push done [] (first ∷ events) asked event after served = absurd after
-serves_push done (next ∷ lines) [] asked event after served = absurd after
-serves_push done (next ∷ lines) (first ∷ events) asked event after served = (
-  after.0,
-  serves_push (done ++ first.effects) lines events asked event after.1
-      (subst (λ (l : List Effect). ServedAfter l asked event) (sym (append_assoc done first.effects (effects events))) served),
-)
+  -- a line's change is what the entries ask for
+  pub made_is : (line : Line) (asked : Request) → request_of line ≡ Some asked → Decided asked → made_by decision ≡ success (comes_to entries client line)
+  made_is line asked is decided =
+      made_as entries client number (next_snap entries) asked decision decided (change_asked (state_after entries) client (next_snap entries) asked) refl
+      ∙ ap (λ (o : Option Request). success (server_change (state_after entries) client (next_snap entries) o)) (sym is)
+
+  -- and what its client is told is what they answer
+  pub said_is : (line : Line) (asked : Request) → request_of line ≡ Some asked → is_served line ≡ true → Decided asked → said_by decision ≡ answer_after entries client line
+  said_is (line.Mkdir path) asked is served decided =
+      said_of (request.Mkdir path) _ (subst Decided (some_is (request.Mkdir path) asked is) decided) refl
+  said_is (line.Rmdir path) asked is served decided =
+      said_of (request.Rmdir path) _ (subst Decided (some_is (request.Rmdir path) asked is) decided) refl
+  said_is (line.Create path mode) asked is served decided =
+      said_of (request.Create path mode) _ (subst Decided (some_is (request.Create path mode) asked is) decided) refl
+  said_is (line.Unlink path) asked is served decided =
+      said_of (request.Unlink path) _ (subst Decided (some_is (request.Unlink path) asked is) decided) refl
+  said_is (line.Link path target) asked is served decided =
+      said_of (request.Link path target) _ (subst Decided (some_is (request.Link path target) asked is) decided) refl
+  said_is (line.Rename path target) asked is served decided =
+      said_of (request.Rename path target) _ (subst Decided (some_is (request.Rename path target) asked is) decided) refl
+  said_is (line.Chmod path mode) asked is served decided =
+      said_of (request.Chmod path mode) _ (subst Decided (some_is (request.Chmod path mode) asked is) decided) refl
+  said_is (line.Stat path) asked is served decided =
+      queried (request.Stat path) (query.Stat path) (subst Decided (some_is (request.Stat path) asked is) decided) refl refl
+      (live_is_past entries (place_of path) served)
+  said_is (line.List path) asked is served decided =
+      queried (request.List path) (query.List path) (subst Decided (some_is (request.List path) asked is) decided) refl refl tt
+  said_is (line.Realm path) asked is served decided =
+      queried (request.Realm path) (query.Realm path) (subst Decided (some_is (request.Realm path) asked is) decided) refl refl tt
+  said_is other asked is served decided = cc
+
+  -- so the event of the decision serves the line
+  pub served_by : (line : Line) (asked : Request) (event : Event) (count : ℕ) → request_of line ≡ Some asked → is_served line ≡ true → Decided asked → count ≡ length entries → event ≡ event_of client number count (made_by decision) (said_by decision) → IsServedBy entries (record { client = client; number = number; line = line }) event
+  served_by line asked event count is served decided counted same =
+      let told_so : event ≡ event_of client number (length entries) (success (comes_to entries client line)) (answer_after entries client line) = same ∙ (λ i. event_of client number (counted i) (made_is line asked is decided i) (said_is line asked is served decided i)) in
+      subst (IsServedBy entries (record { client = client; number = number; line = line })) (sym told_so) (record {
+        served = served;
+        node = refl;
+        step = refl;
+        taken = refl;
+        sent = refl;
+        effects = refl;
+        replies = refl;
+      })
+
+  -- a decision to write an entry down is for the change that the entry says
+  written_so : (asked : Request) (entry : Entry) → Decided asked → decision ≡ Put entry → (made : Change) × IsWritten client number made entry
+  written_so asked entry decided is = by_plan (change_asked (state_after entries) client (next_snap entries) asked) refl
+    where
+      by_plan : (plan : Option (Result Change Refusal)) → change_asked (state_after entries) client (next_snap entries) asked ≡ plan → (made : Change) × IsWritten client number made entry
+      by_plan (Some (Ok made)) plan = (made, subst (IsPut client number made) is (decided.written made plan))
+      by_plan (Some (Err refusal)) plan = let other = decided.refused refusal plan in cc
+      by_plan None plan = absurd (subst (IsAnswer entries (query_of asked)) is (decided.answered plan))
+
+  -- and its event writes that entry down
+  pub entry_is : (asked : Request) (entry : Entry) (count : ℕ) (event : Event) → Decided asked → decision ≡ Put entry → event ≡ event_of client number count (made_by decision) (said_by decision) → entries_in event ≡ entry ∷ []
+  entry_is asked entry count event decided is same =
+      let so = written_so asked entry decided is in
+      let made_so : made_by decision ≡ Some so.0 = ap made_by is ∙ so.1.says in
+      let kept : what_of so.0 ≡ Some entry.what = said_again entry.what so.0 so.1.says in
+      ap entries_in same
+      ∙ ap (λ (o : Option Change). entries_in (event_of client number count o (said_by decision))) made_so
+      ∙ ap (λ (o : Option What). entry_of client number o ++ []) kept
+      ∙ (λ i. record { client = sym so.1.of_client i; number = sym so.1.of_request i; what = entry.what } ∷ [])
+
+  -- another one's writes nothing down
+  pub no_entry : (answer : Answer) (count : ℕ) (event : Event) → decision ≡ Say answer → event ≡ event_of client number count (made_by decision) (said_by decision) → entries_in event ≡ []
+  no_entry answer count event is same =
+      ap entries_in same ∙ ap (λ (d : Decision). entries_in (event_of client number count (made_by d) (said_by decision))) is
+
+  -- what is written down may follow
+  pub legal_is : (asked : Request) (entry : Entry) → is_given (next_snap entries) ≡ true → Decided asked → decision ≡ Put entry → is_legal entries entry ≡ true
+  legal_is asked entry given decided is = subst (IsLegal entries (next_snap entries)) is decided.legal (by_what entry.what)
+    where
+      free : is_free_id entries (next_snap entries) ≡ true
+      free = let above : nat_lt (applied entries) (applied entries + 1) ≡ true = grind (arith, nat_tests) in rw (above, given) refl
+
+      by_what : (said : What) → CanHaveId entries (next_snap entries) said
+      by_what (what.Mksnap id dir name) = free
+      by_what other = tt
 
 -- the lines of client 1 have rising numbers, from the next one on
 abbrev pub rising : ℕ → List (ℕ × Line) → List Asked
@@ -164,74 +230,27 @@ numbered_rising before n (line ∷ lines) is of_one =
     next : one_more line.0 before 1 ≡ n + 1
     next = rw of_one.0 (ap (λ (m : ℕ). m + 1) is)
 
--- the first server stands for no effect, and serves no line
-pub first_step : (server : Direct) (events : List Event) → ((s : SnapId) → entries_of server s ≡ []) → newest server.tree ≡ 0 → server.snaps.items ≡ [] → server.made ≡ 0 → events ≡ [] → record { stands : Stands server (effects events); settled : IsSettled server; serves : ServesAfter [] [] events; few : length (effects events) ≤ 0 }
-first_step server events entries newest snaps made none = record {
-  stands = subst (λ (l : List Event). Stands server (effects l)) (sym none)
-      (stands_same (entries_of server) (entries_of server) [] (snaps_of server) 0 server.made [] (λ s. refl) (ap (map seen) snaps) made
-      (stands_first (entries_of server) entries));
-  settled = omega (arith, newest);
-  serves = subst (ServesAfter [] []) (sym none) tt;
-  few = subst (λ (l : List Event). length (effects l) ≤ 0) (sym none) (omega arith);
-}
-
-effects_push : (events : List Event) (event : Event) → effects (events ++ event ∷ []) ≡ effects events ++ event.effects
-effects_push events event = flat_map-append (λ (e : Event). e.effects) events (event ∷ []) ∙ ap (λ (l : List Effect). effects events ++ l) (append-nil event.effects)
-
-and_right : (a b : Bool) → (a && b) ≡ true → b ≡ true
-and_right true b is = is
-and_right false b is = cc
-
-room_of : (made snaps : ℕ) → made + snaps < 512 → (nat_lt made LIMIT && nat_lt snaps LIMIT) ≡ true
-room_of made snaps few =
-    let first : nat_lt made LIMIT ≡ true = grind (arith, nat_tests) in
-    let second : nat_lt snaps LIMIT ≡ true = grind (arith, nat_tests) in
-    rw (first, second) refl
-
--- after few effects there is room
-pub room_after : (server : Direct) (done : List Effect) (i n : ℕ) → Stands server done → length done ≤ i → i < n → n ≤ 512 → has_room server ≡ true
-room_after server done i n stands few within limit =
-    room_of server.made (length server.snaps.items) (omega (arith, stands.count, length-map server.snaps.items seen))
-
--- a line has one effect at most
-at_most_one : (client entries : ℕ) (o : Option Change) → length (effects_of client entries o) ≤ 1
-at_most_one client entries None = omega arith
-at_most_one client entries (Some change) = omega arith
-
-few_from_room : (server : Direct) → has_room server ≡ true → applied_of (snaps_of server) + 1 < NOSNAP.0
-few_from_room server room =
-    let below : length server.snaps.items < LIMIT = ltb-true _ _ (and_right (nat_lt server.made LIMIT) (nat_lt (length server.snaps.items) LIMIT) room) in
-    omega (arith, below, length-map server.snaps.items seen)
-
--- a change that was made leaves the server settled
-settled_after : (old new : Direct) (o : Option Change) → Makes old new o → IsSettled old → IsSettled new
-settled_after old new (Some (Mkdir dir name ino)) puts was = omega (arith, puts.settled, ap length puts.snaps)
-settled_after old new (Some (Mksnap id dir name)) puts was =
-    let snap : Snapshot = record { id = id; root = dir; name = name; live = true } in
-    omega (arith, puts.settled, ap length puts.snaps, length-append (snaps_of old) (snap ∷ []), was)
-settled_after old new None stays was = omega (arith, stays.settled, ap length stays.snaps, was)
-settled_after old new (Some change) stays was = omega (arith, stays.settled, ap length stays.snaps, was)
-
--- one more line
-pub next_step : (old new : Direct) (lines : List (ℕ × Line)) (events after : List Event) (i number : ℕ) (line : ℕ × Line) (event : Event) → i < length lines → line ≡ get_or lines i line → number ≡ i + 1 → line.0 ≡ 1 → has_room old ≡ true → Stands old (effects events) → IsSettled old → ServesAfter [] (rising 0 (take i lines)) events → IsServed (live_of old) (tree_of old) (count_of old) (record { client = line.0; number = number; line = line.1 }) event → Makes old new (change_by (live_of old) line.1) → after ≡ events ++ event ∷ [] → length (effects events) ≤ i → record { stands : Stands new (effects after); settled : IsSettled new; serves : ServesAfter [] (rising 0 (take (i + 1) lines)) after; few : length (effects after) ≤ i + 1 }
-next_step old new lines events after i number line event within is same of_one room stands settled serves served makes pushed count_so_far =
-    let few = few_from_room old room in
-    let asked : Asked = record { client = line.0; number = number; line = line.1 } in
-    let served_now = served_is old (effects events) (omega (arith, few)) stands asked event served in
+-- the first lines and one more
+pub rising_more : (lines : List (ℕ × Line)) (i number : ℕ) (line : ℕ × Line) → i < length lines → line ≡ get_or lines i line → number ≡ i + 1 → line.0 ≡ 1 → rising 0 (take (i + 1) lines) ≡ rising 0 (take i lines) ++ record { client = line.0; number = number; line = line.1 } ∷ []
+rising_more lines i number line within is same of_one =
     let count : number ≡ 0 + length (take i lines) + 1 = omega (arith, same, length-take-le i lines (omega arith)) in
-    let asked_is : asked ≡ record { client = 1; number = 0 + length (take i lines) + 1; line = line.1 } = (λ j. record { client = of_one j; number = count j; line = line.1 }) in
+    let asked_is : ◌≡◌ {A = Asked} (record { client = line.0; number = number; line = line.1 }) (record { client = 1; number = 0 + length (take i lines) + 1; line = line.1 }) = (λ j. record { client = of_one j; number = count j; line = line.1 }) in
     let more : take (i + 1) lines ≡ take i lines ++ line ∷ [] = take_more lines i line within ∙ ap (λ (l : ℕ × Line). take i lines ++ l ∷ []) (sym is) in
-    let all : rising 0 (take (i + 1) lines) ≡ rising 0 (take i lines) ++ asked ∷ [] = ap (rising 0) more ∙ rising-append 0 (take i lines) line ∙ ap (λ (a : Asked). rising 0 (take i lines) ++ a ∷ []) (sym asked_is) in
-    record {
-      stands = subst (Stands new) (sym (ap effects pushed ∙ effects_push events event)) (stands_after old new (effects events) few stands asked event served_now makes);
-      settled = settled_after old new (change_by (live_of old) line.1) makes settled;
-      serves = rw (pushed, all) (serves_push [] (rising 0 (take i lines)) events asked event serves served_now);
-      few =
-          let one : length event.effects ≤ 1 = rw (served_now.effects) (at_most_one asked.client (length (effects events)) (change_by (state_after (effects events)) asked.line)) in
-          omega (arith, ap (λ (l : List Event). length (effects l)) pushed, ap length (effects_push events event), length-append (effects events) event.effects, one, count_so_far);
-    }
+    ap (rising 0) more ∙ rising-append 0 (take i lines) line ∙ ap (λ (a : Asked). rising 0 (take i lines) ++ a ∷ []) (sym asked_is)
 
 -- all lines
 pub all_served : (lines : List (ℕ × Line)) (events : List Event) (i : ℕ) → OfOneClient lines → length lines ≤ i → ServesAfter [] (rising 0 (take i lines)) events → ServesAfter [] (numbered lines) events
 all_served lines events i of_one all serves =
     subst (λ (l : List Asked). ServesAfter [] l events) (ap (rising 0) (take_all i lines all) ∙ sym (numbered_rising (λ client. 0) 0 lines refl of_one)) serves
+
+-- one more line is served, and the state stands for its entry too
+pub next_step : (new : Tables) (lines : List (ℕ × Line)) (events after : List Event) (i number : ℕ) (line : ℕ × Line) (event : Event) → i < length lines → line ≡ get_or lines i line → number ≡ i + 1 → line.0 ≡ 1 → ServesAfter [] (rising 0 (take i lines)) events → IsServedBy (journal_of events) (record { client = line.0; number = number; line = line.1 }) event → StandsFor new (journal_of events ++ entries_in event) → after ≡ events ++ event ∷ [] → record { stands : StandsFor new (journal_of after); serves : ServesAfter [] (rising 0 (take (i + 1) lines)) after }
+next_step new lines events after i number line event within is same of_one serves served stands pushed = record {
+  stands = subst (StandsFor new) (sym (ap journal_of pushed ∙ journal_push events event)) stands;
+  serves = rw (pushed, rising_more lines i number line within is same of_one) (serves_push [] (rising 0 (take i lines)) events (record { client = line.0; number = number; line = line.1 }) event serves served);
+}
+
+-- what follows from what an answer holds
+pub map_ok : {A E : Type 0} (r : Result A E) (P Q : A → Type 0) → ((x : A) → P x → Q x) → IfOk r P → IfOk r Q
+map_ok (Ok x) P Q f p = f x p
+map_ok (Err error) P Q f p = tt

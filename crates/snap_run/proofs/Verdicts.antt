@@ -1,6 +1,6 @@
 -- What running an input comes to is what the whole run comes to.
 use Rattle.std.proofs.Common.{◌≡◌, ℕ, zero, suc, ◌+◌, ◌<◌, ◌≤◌, List, [], ◌∷◌, length, take, get_or, ltb, Bool, true, false, not, cond, Option, None, Some, Result, Ok, Err, refl, sym, ap, ◌∙◌, subst, arith}
-use Rattle.std.specs.Prelude.{IfSome, IfOk, ◌&&◌, ◌==◌}
+use Rattle.std.specs.Prelude.{IfSome, IfNone, IfOk, ◌&&◌, ◌==◌}
 use Rattle.std.specs.List.{AllByRecursion, position, position_or_len}
 use Rattle.std.proofs.lemmas.Bool.Decides.{nat_tests}
 use Rattle.std.proofs.lemmas.List.{take_all, length-take}
@@ -8,8 +8,8 @@ use Rattle.std.specs.Io.KnownBytes.{IsAtEnd}
 use Rattle.plain_types.specs.declared.history.Event.{Event}
 use Rattle.plain_types.specs.declared.script.Line.{Line}
 use Rattle.plain_types.specs.declared.script.Script.{Script}
-use Rattle.direct_history.specs.Line.{is_served}
-use Rattle.direct_history.specs.Direct.{OfOneClient}
+use Rattle.direct_journal.specs.Served.{is_served}
+use Rattle.direct_journal.specs.Direct.{OfOneClient}
 use Rattle.script_text.specs.declared.error.ScriptError.{ScriptError}
 use Rattle.script_text.specs.declared.outcome.End.{End}
 use Rattle.script_text.specs.declared.outcome.End.TheVariants as ending
@@ -92,6 +92,11 @@ pub of_one_client : (lines : List (ℕ × Line)) → AllByRecursion IsTaken line
 of_one_client [] all = tt
 of_one_client (line ∷ lines) all =
     (let test : (line.0 == 1) ≡ true = (both (line.0 == 1) (is_served line.1) all.0).0 in grind (arith, nat_tests), of_one_client lines all.1)
+
+-- what holds anyway holds where nothing is found
+pub if_none : {A : Type 0} (o : Option A) (P : Type 0) → P → IfNone o P
+if_none None P p = p
+if_none (Some x) P p = tt
 
 -- where none is found that isn't taken, all are
 pub all_taken : (lines : List (ℕ × Line)) → position (λ line. not (is_taken line)) lines ≡ None → AllByRecursion IsTaken lines

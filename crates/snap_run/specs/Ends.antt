@@ -4,7 +4,7 @@ use Rattle.plain_types.specs.declared.script.Line.{Line}
 use Rattle.plain_types.specs.declared.script.Planned.{Planned}
 use Rattle.plain_types.specs.declared.script.Planned.TheVariants.{All}
 use Rattle.plain_types.specs.declared.script.Script.{Script}
-use Rattle.direct_history.specs.Line.{is_served}
+use Rattle.direct_journal.specs.Served.{is_served}
 use Rattle.script_text.specs.declared.error.ScriptError.{ScriptError}
 use Rattle.script_text.specs.declared.error.ScriptError.TheVariants.{BadLine}
 use Rattle.script_text.specs.declared.outcome.End.{End}

@@ -1,5 +1,3 @@
-pub mod Direct
 pub mod Ends
 pub mod Event
 pub mod Run
-pub mod Server

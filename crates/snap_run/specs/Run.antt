@@ -3,8 +3,8 @@ use Rattle.std.specs.Prelude.{◌≡◌, ℕ, true, false, List, [], ◌++◌, t
 use Rattle.std.specs.Io.KnownBytes.{Consumes, Appends, IsAtEnd}
 use Rattle.plain_types.specs.declared.history.Event.{Event}
 use Rattle.plain_types.specs.declared.script.Script.{Script}
-use Rattle.direct_history.specs.History.{replies}
-use Rattle.direct_history.specs.Legal.{Legal, EachReply, IsFromSnap, IsFromLive}
+use Rattle.plain_tree.specs.History.{replies}
+use Rattle.direct_journal.specs.Legal.{Legal, EachReply, IsFromSnap, IsFromLive}
 use Rattle.io_edge.specs.Outside.{Rises, AppendsSome}
 use Rattle.script_text.specs.declared.outcome.End.{End}
 use Rattle.script_text.specs.declared.outcome.End.TheVariants as ending

@@ -2,30 +2,20 @@
 ghost use Rattle.std.specs.Prelude.{◌≡◌, ◌≤◌, ◌<◌, not, length, position, IfNone, IfSome};
 ghost use Rattle.std.specs.List.{AllByRecursion};
 ghost use Rattle.snap_ids.specs.Path.{place_of};
-ghost use Rattle.direct_history.specs.Line.{ends_in_snap, is_in_inherited, is_served};
+ghost use Rattle.direct_journal.specs.Served.{is_live_place, is_served};
 ghost use Rattle.snap_run.specs.Ends.{is_taken, IsTaken, header_lines, is_all, first_number, first_unfollowed, first_unserved, is_unfinished};
 
 use plain_types::{Line, Planned, Script};
 use script_text::number_at;
 use snap_ids::{Path, Target};
 
-// Whether the last name of a path is `.snap`.
-fn ends_in_snap(path: &Path) -> bool
-    ensures { result ≡ ends_in_snap path.now }
-{
-    match path.names().last() {
-        Some(name) => name.is_dot_snap(),
-        None => false,
-    }
-}
-
-// Whether a path leads into a snapshot whose name begins with `_`.
-fn is_in_inherited(path: &Path) -> bool
-    ensures { result ≡ is_in_inherited (place_of path.now) }
+// Whether a path is one of the live tree.
+fn is_live(path: &Path) -> bool
+    ensures { result ≡ is_live_place (place_of path.now) }
 {
     match path.target() {
-        Target::InSnap(_, name, _) => name.as_bytes().starts_with(b"_".as_slice()),
-        Target::Live(_) | Target::Snaps(_) => false,
+        Target::Live(_) => true,
+        Target::Snaps(_) | Target::InSnap(..) => false,
     }
 }
 
@@ -34,8 +24,16 @@ fn is_served(line: &Line) -> bool
     ensures { result ≡ is_served line.now }
 {
     match line {
-        Line::Mkdir { .. } => true,
-        Line::List { path } => !ends_in_snap(path) && !is_in_inherited(path),
+        Line::Mkdir { .. }
+        | Line::Rmdir { .. }
+        | Line::Create { .. }
+        | Line::Unlink { .. }
+        | Line::Link { .. }
+        | Line::Rename { .. }
+        | Line::Chmod { .. }
+        | Line::List { .. }
+        | Line::Realm { .. } => true,
+        Line::Stat { path } => is_live(path),
         _ => false,
     }
 }

@@ -1,8 +1,6 @@
 //! The program's one call: a script's bytes in, the bytes of its replies out.
 #![tactic(auto)]
 
-mod direct;
-mod dirs;
 mod edge;
 mod ends;
 mod run;

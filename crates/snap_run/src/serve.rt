@@ -1,214 +1,198 @@
 // How the server answers a line, and the event that this is.
-ghost use Rattle.std.specs.Prelude.{◌≡◌, ◌≤◌, ◌<◌, ◌^◌, ℕ, ◌+◌, ◌-◌, true, [], length, slice_get, IsTrue, OnOk, IfOk};
+ghost use Rattle.std.specs.Prelude.{◌≡◌, ◌≤◌, ◌<◌, ◌^◌, ◌++◌, true, [], length, List, IfOk};
 ghost use Rattle.std.specs.List.{AllByRecursion};
-ghost use Rattle.snap_ids.specs.declared.id.TheConstants.{ROOT};
-ghost use Rattle.snap_ids.specs.Path.{place_of};
-ghost use Rattle.direct_history.specs.Line as plain;
-ghost use Rattle.direct_history.specs.Line.{is_served};
+ghost use Rattle.plain_types.specs.declared.entry.Entry.{Entry as Written};
+ghost use Rattle.plain_tree.specs.Line.{request_of, answer_to};
+ghost use Rattle.plain_journal.specs.Entries.{change_in};
+ghost use Rattle.plain_journal.specs.Legal.{is_given};
+ghost use Rattle.direct_journal.specs.Direct.{told, IsServedBy, ServesAfter};
+ghost use Rattle.direct_journal.specs.Journal.{entries_in, next_snap};
+ghost use Rattle.direct_journal.specs.Legal.{numbered, effects_of};
+ghost use Rattle.direct_journal.specs.Served.{is_served};
+ghost use Rattle.meta_state.specs.Stands.{StandsFor, IsState};
 ghost use Rattle.snap_run.specs.Ends.{IsTaken};
-ghost use Rattle.direct_history.specs.Walk as walks;
-ghost use Rattle.direct_history.specs.Direct.{ServesAfter};
-ghost use Rattle.direct_history.specs.Legal.{snap_answer, list_answer, line_answer, change_by, numbered, IsServed};
-ghost use Rattle.snap_run.specs.Server.{IsSettled, live_of, tree_of, count_of, has_room, Makes};
-ghost use Rattle.snap_run.specs.Event.{event_of, event_with};
+ghost use Rattle.snap_run.specs.Event.{event_of, event_with, answer_for, made_by, said_by};
 
-use crate::direct::{Direct, refused};
+use meta_state::{Decision, MetaState};
 use plain_types::{
-    Answer, Change, Decision, Effect, Effects, Event, History, Line, Refusal, Replied, Replies,
-    Sending, Step,
+    Answer, Change, Effect, Effects, Event, History, Line, Refusal, Replied, Replies, Request,
+    Sending, Step, What,
 };
-use snap_ids::{NOSNAP, Name, NoMemory, Path, ROOT, Target};
+use snap_ids::{NoMemory, SnapId};
 use std::alloc::Global;
 
-impl Direct {
-    // `mkdir` of a path outside `.snap`.
-    fn mkdir_live(&mut self, names: &[Name]) -> Result<Decision, NoMemory>
-        requires room { IsTrue (has_room self.old) }
-        requires settled { IsSettled self.old }
-        ensures decided { IfOk result (λ decision.
-            decision ≡ plain.mkdir_last (live_of self.old) names.now (slice_get names.now (length names.now - 1))) }
-        ensures made { IfOk result (λ decision. Makes self.old self.new (plain.change_of decision)) }
-    {
-        let Some((name, parent)) = names.split_last() else {
-            return Ok(refused(Refusal::BadName));
-        };
-        match self.walk(parent) {
-            Ok(dir) => self.new_entry(dir, name),
-            Err(refusal) => Ok(refused(refusal)),
-        }
-    }
-
-    // `mkdir` of a snapshot of a directory.
-    fn mkdir_snap(&mut self, dir: &[Name], name: &Name) -> Result<Decision, NoMemory>
-        requires { IsTrue (has_room self.old) }
-        ensures decided { IfOk result (λ decision.
-            decision ≡ plain.at_end (walks.walk (live_of self.old).entries ROOT dir.now)
-            (plain.new_snap (live_of self.old) (walks.next_snap (live_of self.old)) name.now)) }
-        ensures made { IfOk result (λ decision. Makes self.old self.new (plain.change_of decision)) }
-    {
-        match self.walk(dir) {
-            Ok(dir) => self.new_snap(dir, name),
-            Err(refusal) => Ok(refused(refusal)),
-        }
-    }
-
-    // `mkdir`.
-    fn mkdir(&mut self, path: &Path) -> Result<Decision, NoMemory>
-        requires room { IsTrue (has_room self.old) }
-        requires settled { IsSettled self.old }
-        ensures decided { IfOk result (λ decision.
-            decision ≡ plain.mkdir (live_of self.old) (walks.next_snap (live_of self.old)) (place_of path.now)) }
-        ensures made { IfOk result (λ decision. Makes self.old self.new (plain.change_of decision)) }
-    {
-        match path.target() {
-            Target::Live(names) => self.mkdir_live(names),
-            Target::Snaps(_) => Ok(refused(Refusal::ReadOnly)),
-            Target::InSnap(dir, name, below) => {
-                if below.is_empty() {
-                    self.mkdir_snap(dir, name)
-                } else {
-                    Ok(refused(Refusal::ReadOnly))
-                }
-            }
-        }
-    }
-
-    // `ls` of a live path.
-    fn list_live(&self, names: &[Name]) -> Result<Answer, NoMemory>
-        ensures { IfOk result (λ answer.
-            answer ≡ plain.answer_of (plain.list_from (live_of self.now) ROOT names.now)) }
-    {
-        self.list_at(ROOT, names, NOSNAP)
-    }
-
-    // `ls` of what stands under `.snap`.
-    fn list_snap(&self, dir: &[Name], name: &Name, below: &[Name]) -> Result<Answer, NoMemory>
-        ensures { IfOk result (λ answer.
-            answer ≡ snap_answer (live_of self.now) (tree_of self.now) dir.now name.now below.now) }
-    {
-        match self.walk(dir) {
-            Ok(dir) => match self.snap_named(dir, name) {
-                Some(id) => self.list_at(dir, below, id),
-                None => Ok(Answer::Refused(Refusal::NoSnap)),
-            },
-            Err(refusal) => Ok(Answer::Refused(refusal)),
-        }
-    }
-
-    // `ls`.
-    fn list(&self, path: &Path) -> Result<Answer, NoMemory>
-        ensures { IfOk result (λ answer. (client : ℕ) →
-            answer ≡ list_answer (live_of self.now) (tree_of self.now) client path.now (place_of path.now)) }
-    {
-        match path.target() {
-            Target::InSnap(dir, name, below) => self.list_snap(dir, name, below),
-            Target::Live(_) => self.list_live(path.names()),
-            Target::Snaps(_) => self.list_live(path.names()),
-        }
-    }
-
-    // What a line comes to; its change is made.
-    fn decide(&mut self, line: &Line) -> Result<Decision, NoMemory>
-        requires room { IsTrue (has_room self.old) }
-        requires settled { IsSettled self.old }
-        ensures change { IfOk result (λ decision.
-            plain.change_of decision ≡ change_by (live_of self.old) line.now) }
-        ensures answer { IfOk result (λ decision. (client : ℕ) →
-            plain.answer_of decision ≡ line_answer (live_of self.old) (tree_of self.old) client line.now) }
-        ensures made { IfOk result (λ decision. Makes self.old self.new (plain.change_of decision)) }
-    {
-        match line {
-            Line::Mkdir { path } => self.mkdir(path),
-            Line::List { path } => match self.list(path) {
-                Ok(answer) => Ok(Decision::Say(answer)),
-                Err(error) => Err(error),
-            },
-            _ => Ok(refused(Refusal::ReadOnly)),
-        }
-    }
-
-    /// Answers a line of a client, its number-th, and makes its change. The line is one that a server takes.
-    pub fn serve(
-        &mut self,
-        alloc: Global,
-        client: u8,
-        number: u32,
-        line: &Line,
-    ) -> Result<Event, NoMemory>
-        requires room { IsTrue (has_room self.old) }
-        requires settled { IsSettled self.old }
-        requires taken { is_served line.now ≡ true }
-        ensures served { IfOk result (λ event.
-            IsServed (live_of self.old) (tree_of self.old) (count_of self.old)
-            (record { client = client; number = number; line = line.now }) event) }
-        ensures made { OnOk result (Makes self.old self.new (change_by (live_of self.old) line.now)) }
-    {
-        let entries = self.count();
-        match self.decide(line) {
-            Ok(decision) => event_of(alloc, client, number, entries, decision),
-            Err(error) => Err(error),
-        }
+// What the server is asked for a line; None where the line is its client's own.
+fn request_of(line: &Line) -> Result<Option<Request>, NoMemory>
+    ensures { IfOk result (λ asked. asked ≡ request_of line.now) }
+{
+    match line {
+        Line::Mkdir { path } => Ok(Some(Request::Mkdir {
+            path: path.clone()?,
+        })),
+        Line::Rmdir { path } => Ok(Some(Request::Rmdir {
+            path: path.clone()?,
+        })),
+        Line::Create { path, mode } => Ok(Some(Request::Create {
+            path: path.clone()?,
+            mode: *mode,
+        })),
+        Line::Unlink { path } => Ok(Some(Request::Unlink {
+            path: path.clone()?,
+        })),
+        Line::Link { path, target } => Ok(Some(Request::Link {
+            path: path.clone()?,
+            target: target.clone()?,
+        })),
+        Line::Rename { path, target } => Ok(Some(Request::Rename {
+            path: path.clone()?,
+            target: target.clone()?,
+        })),
+        Line::Chmod { path, mode } => Ok(Some(Request::Chmod {
+            path: path.clone()?,
+            mode: *mode,
+        })),
+        Line::Open {
+            handle,
+            path,
+            writable,
+        } => Ok(Some(Request::Open {
+            handle: *handle,
+            path: path.clone()?,
+            writable: *writable,
+        })),
+        Line::Close { handle } => Ok(Some(Request::Close { handle: *handle })),
+        Line::Cat { path } => Ok(Some(Request::Cat {
+            path: path.clone()?,
+        })),
+        Line::Stat { path } => Ok(Some(Request::Stat {
+            path: path.clone()?,
+        })),
+        Line::List { path } => Ok(Some(Request::List {
+            path: path.clone()?,
+        })),
+        Line::Realm { path } => Ok(Some(Request::Realm {
+            path: path.clone()?,
+        })),
+        Line::Clones { path, index } => Ok(Some(Request::Clones {
+            path: path.clone()?,
+            index: *index,
+        })),
+        _ => Ok(None),
     }
 }
 
-// The answer to a change.
-fn answer_to(change: &Change) -> Answer
-    ensures { result ≡ plain.answer_of_change change.now }
+// The change that an entry says.
+fn change_in(what: What) -> Option<Change>
+    ensures { result ≡ change_in what }
 {
-    match change {
-        Change::Mksnap { id, .. } => Answer::Snap(*id),
+    let change = match what {
+        What::Mkdir { dir, name, ino } => Change::Mkdir { dir, name, ino },
+        What::Create {
+            dir,
+            name,
+            ino,
+            mode,
+        } => Change::Create {
+            dir,
+            name,
+            ino,
+            mode,
+        },
+        What::Link { ino, dir, name } => Change::Link { ino, dir, name },
+        What::Unlink { dir, name } => Change::Unlink { dir, name },
+        What::Rmdir { dir, name } => Change::Rmdir { dir, name },
+        What::Rename {
+            dir,
+            name,
+            to_dir,
+            to_name,
+        } => Change::Rename {
+            dir,
+            name,
+            to_dir,
+            to_name,
+        },
+        What::Chmod { ino, mode } => Change::Chmod { ino, mode },
+        What::OpenFile {
+            handle,
+            ino,
+            writable,
+        } => Change::OpenFile {
+            handle,
+            ino,
+            writable,
+        },
+        What::CloseFile { handle } => Change::CloseFile { handle },
+        What::Mksnap { id, dir, name } => Change::Mksnap { id, dir, name },
+        What::Rmsnap { id } => Change::Rmsnap { id },
+        _ => return None,
+    };
+    Some(change)
+}
+
+// The answer to a change.
+fn answer_for(made: &Option<Change>) -> Answer
+    ensures { result ≡ answer_for made.now }
+{
+    match made {
+        Some(Change::Mksnap { id, .. }) => Answer::Snap(*id),
+        Some(Change::OpenFile { ino, .. }) => Answer::Opened(*ino),
         _ => Answer::Done,
     }
 }
 
-// The event of a decision.
+// What a client is told of an answer: of a live file that is found its mode, and that it has no byte.
+fn told(answer: Answer) -> Answer
+    ensures { result ≡ told answer }
+{
+    match answer {
+        Answer::FoundLive { perm, .. } => Answer::StatFile(perm, 0),
+        answer => answer,
+    }
+}
+
+// The effects of a change.
+fn effects_of(
+    alloc: Global,
+    client: u8,
+    entries: u64,
+    made: Option<Change>,
+) -> Result<Effects, NoMemory>
+    requires { entries < 2 ^ 62 }
+    ensures { IfOk result (λ effects. effects ≡ effects_of client entries made) }
+{
+    let Some(change) = made else {
+        return Ok(Effects::new(alloc));
+    };
+    let mut effects = Vec::with_capacity(alloc, 1)?;
+    effects.push(Effect {
+        client,
+        entry: entries + 1,
+        change,
+    })?;
+    Ok(Effects::from_vec(effects))
+}
+
+// The event of a line that makes this change and is told so.
 fn event_of(
     alloc: Global,
     client: u8,
     number: u32,
     entries: u64,
-    decision: Decision,
+    made: Option<Change>,
+    said: Answer,
 ) -> Result<Event, NoMemory>
-    requires { entries < 2 ^ 63 }
-    ensures { IfOk result (λ event. event ≡ event_of client number entries decision) }
+    requires { entries < 2 ^ 62 }
+    ensures { IfOk result (λ event. event ≡ event_of client number entries made said) }
 {
-    match decision {
-        Decision::Put(change) => {
-            let answer = answer_to(&change);
-            let mut effects = Vec::with_capacity(alloc, 1)?;
-            effects.push(Effect {
-                client,
-                entry: entries + 1,
-                change,
-            })?;
-            let reply = Replied {
-                client,
-                line: number,
-                changed: true,
-                entry: entries,
-                answer,
-            };
-            one_reply(alloc, Effects::from_vec(effects), reply)
-        }
-        Decision::Say(answer) => {
-            let effects = Effects::new(alloc);
-            let reply = Replied {
-                client,
-                line: number,
-                changed: false,
-                entry: entries,
-                answer,
-            };
-            one_reply(alloc, effects, reply)
-        }
-    }
-}
-
-// The event of a client's line with these effects and this reply.
-fn one_reply(alloc: Global, effects: Effects, reply: Replied) -> Result<Event, NoMemory>
-    ensures { IfOk result (λ event. event ≡ event_with effects reply) }
-{
-    let client = reply.client;
+    let reply = Replied {
+        client,
+        line: number,
+        changed: made.is_some(),
+        entry: entries,
+        answer: said,
+    };
+    let effects = effects_of(alloc, client, entries, made)?;
     let mut replies = Vec::with_capacity(alloc, 1)?;
     replies.push(reply)?;
     Ok(Event {
@@ -221,18 +205,79 @@ fn one_reply(alloc: Global, effects: Effects, reply: Replied) -> Result<Event, N
     })
 }
 
-/// The history of a script's lines, each answered after the ones before it. They are lines of client 1 that a server
-/// takes.
+// The event of a decision.
+fn event_for(
+    alloc: Global,
+    client: u8,
+    number: u32,
+    entries: u64,
+    decision: Decision,
+) -> Result<Event, NoMemory>
+    requires { entries < 2 ^ 62 }
+    ensures { IfOk result (λ event. event ≡ event_of client number entries (made_by decision) (said_by decision)) }
+{
+    match decision {
+        Decision::Put(entry) => {
+            let made = change_in(entry.what);
+            let said = answer_for(&made);
+            event_of(alloc, client, number, entries, made, said)
+        }
+        Decision::Say(answer) => event_of(alloc, client, number, entries, None, told(answer)),
+    }
+}
+
+// The id that the next snapshot gets. No id reaches 2^62.
+fn next_snap(meta: &MetaState) -> Result<SnapId, NoMemory>
+    ensures next { IfOk result (λ id. (entries : List Written) → StandsFor meta.now entries → id ≡ next_snap entries) }
+    ensures given { IfOk result (λ id. is_given id ≡ true) }
+{
+    let applied = meta.realms().applied();
+    if applied.0 >= 4_611_686_018_427_387_903 {
+        return Err(NoMemory);
+    }
+    Ok(SnapId(applied.0 + 1))
+}
+
+/// Answers a line of a client, its number-th, and makes its change. The line is one that is served. At want of memory the
+/// state may only be dropped.
+fn serve(
+    meta: &mut MetaState,
+    alloc: Global,
+    client: u8,
+    number: u32,
+    line: &Line,
+) -> Result<Event, NoMemory>
+    requires state { IsState meta.old }
+    requires taken { is_served line.now ≡ true }
+    ensures served { IfOk result (λ event. (entries : List Written) → StandsFor meta.old entries
+        → IsServedBy entries (record { client = client; number = number; line = line.now }) event) }
+    ensures stands { IfOk result (λ event. (entries : List Written) → StandsFor meta.old entries
+        → StandsFor meta.new (entries ++ entries_in event)) }
+{
+    let entries = meta.entries();
+    let id = next_snap(meta)?;
+    let Some(request) = request_of(line)? else {
+        let said = Answer::Refused(Refusal::ReadOnly);
+        return event_of(alloc, client, number, entries, None, said);
+    };
+    let decision = meta.decide(client, u64::from(number), &request, id)?;
+    if let Decision::Put(entry) = &decision {
+        meta.apply(entry)?;
+    }
+    event_for(alloc, client, number, entries, decision)
+}
+
+/// The history of a script's lines, each answered after the ones before it. They are lines of client 1 that are served.
 pub fn history_of(alloc: Global, lines: &[(u8, Line)]) -> Result<History, NoMemory>
     requires few { length lines.now ≤ 512 }
     requires taken { AllByRecursion IsTaken lines.now }
     ensures { IfOk result (λ history. ServesAfter [] (numbered lines.now) history) }
 {
-    let mut server = Direct::new(alloc)?;
+    let mut meta = MetaState::new(alloc)?;
     let mut events = Vec::with_capacity(alloc, lines.len())?;
     for (i, (client, line)) in lines.iter().enumerate() {
         let number = i as u32 + 1;
-        events.push(server.serve(alloc, *client, number, line)?)?;
+        events.push(serve(&mut meta, alloc, *client, number, line)?)?;
     }
     Ok(History::from_vec(events))
 }

@@ -251,10 +251,278 @@ const SNAPSHOTS_TEXT: &str = "1.1 ok
 done
 ";
 
+// A directory shows the snapshots of those above it, where they cover it.
+const INHERITED: &str = "clients 1
+1 mkdir /a
+1 mkdir /a/b
+1 mkdir /a/.snap/s
+1 mkdir /a/c
+1 ls /a/b/.snap
+1 ls /a/c/.snap
+1 ls /a/.snap
+1 ls /a/.snap/s
+1 ls /a/b/.snap/_s_1099511627776
+1 ls /a/b/.snap/s
+1 mkdir /a/b/.snap/_s_1099511627776
+schedule
+all
+";
+
+const INHERITED_TEXT: &str = "1.1 ok
+1.2 ok
+1.3 ok snap 2
+1.4 ok
+1.5 list _s_1099511627776/
+1.6 list
+1.7 list s/
+1.8 list b/
+1.9 list
+1.10 no-snap
+1.11 bad-name
+done
+";
+
+// A directory that moves out of its realm keeps what covered it.
+const MOVED: &str = "clients 1
+1 mkdir /a
+1 mkdir /b
+1 mkdir /a/d
+1 mkdir /b/.snap/t
+1 mkdir /a/.snap/s
+1 mkdir /a/d/x
+1 rename /a/d /b/d
+1 ls /a/.snap/s
+1 ls /b/d/.snap
+1 ls /b/d/.snap/_s_1099511627776
+1 ls /a/.snap/s/d
+1 ls /b/.snap/t
+1 ls /b/d
+1 realm /b/d
+schedule
+all
+";
+
+const MOVED_TEXT: &str = "1.1 ok
+1.2 ok
+1.3 ok
+1.4 ok snap 2
+1.5 ok snap 3
+1.6 ok
+1.7 ok
+1.8 list d/
+1.9 list _s_1099511627776/
+1.10 list
+1.11 list
+1.12 list
+1.13 list x/
+1.14 realm 1099511627778 seq 3 ids 3
+done
+";
+
+// A directory that roots a snapshot can't be removed while it has one.
+const ROOTED: &str = "clients 1
+1 mkdir /a
+1 mkdir /a/.snap/s
+1 rmdir /a
+1 rmdir /a/.snap/s
+1 rmdir /a/.snap/s
+1 ls /a/.snap/s
+1 rmdir /a
+1 ls /
+schedule
+all
+";
+
+const ROOTED_TEXT: &str = "1.1 ok
+1.2 ok snap 2
+1.3 has-snapshots
+1.4 ok
+1.5 no-snap
+1.6 no-snap
+1.7 ok
+1.8 list
+done
+";
+
+// Files, their further names, and what covers them.
+const FILES: &str = "clients 1
+1 mkdir /a
+1 mkdir /b
+1 create /a/f 0644
+1 stat /a/f
+1 chmod /a/f 0600
+1 stat /a/f
+1 mkdir /a/.snap/s
+1 link /a/f /b/g
+1 mkdir /b/.snap/t
+1 realm /b/g
+1 realm /a
+1 unlink /a/f
+1 ls /a
+1 ls /a/.snap/s
+1 stat /a/f
+1 stat /b/g
+1 rename /b/g /b/h
+1 ls /b/.snap/t
+1 ls /b
+1 realm /b/h
+1 stat /b
+schedule
+all
+";
+
+const FILES_TEXT: &str = "1.1 ok
+1.2 ok
+1.3 ok
+1.4 stat file 0644 0
+1.5 ok
+1.6 stat file 0600 0
+1.7 ok snap 2
+1.8 ok
+1.9 ok snap 3
+1.10 realm 3 seq 3 ids 3,2
+1.11 realm 1099511627776 seq 2 ids 2
+1.12 ok
+1.13 list
+1.14 list f
+1.15 no-entry
+1.16 stat file 0600 0
+1.17 ok
+1.18 list g
+1.19 list h
+1.20 realm 3 seq 3 ids 3,2
+1.21 stat dir 0755
+done
+";
+
+// Each refusal that needs no handle, where it stands in its line's order.
+const REFUSED_FILES: &str = "clients 1
+1 mkdir /a
+1 create /a/f 0644
+1 mkdir /a
+1 mkdir /x/y
+1 mkdir /a/f/g
+1 unlink /a
+1 rmdir /a
+1 rmdir /a/f
+1 rename /a /a/b
+1 create /a/.snap/s/f 0644
+1 ls /a/.snap/none
+1 mkdir /
+1 ls /a/f
+1 stat /
+1 create /a/f 0600
+1 create /a/f/g 0600
+1 link /a /b
+1 link /x /b
+1 link /a/f /a/f
+1 link /a/f /x/f
+1 rename /a/f /a/f
+1 rename /x /y
+1 rename /a/f /x/y
+1 rename / /b
+1 rename /a/f /
+1 rename /a/f /a/f/g
+1 unlink /x
+1 rmdir /x
+1 rmdir /
+1 chmod /x 0600
+1 chmod /a/.snap 0600
+1 stat /a/f/g
+1 realm /x
+1 realm /a/.snap
+1 rmdir /a/.snap/none
+1 rmdir /a/.snap
+1 mkdir /a/f/.snap/s
+1 ls /a/f/.snap
+schedule
+all
+";
+
+const REFUSED_FILES_TEXT: &str = "1.1 ok
+1.2 ok
+1.3 exists
+1.4 no-entry
+1.5 not-dir
+1.6 is-dir
+1.7 not-empty
+1.8 not-dir
+1.9 into-itself
+1.10 read-only
+1.11 no-snap
+1.12 bad-name
+1.13 not-dir
+1.14 stat dir 0755
+1.15 exists
+1.16 not-dir
+1.17 is-dir
+1.18 no-entry
+1.19 exists
+1.20 no-entry
+1.21 exists
+1.22 no-entry
+1.23 no-entry
+1.24 bad-name
+1.25 bad-name
+1.26 not-dir
+1.27 no-entry
+1.28 no-entry
+1.29 bad-name
+1.30 no-entry
+1.31 read-only
+1.32 not-dir
+1.33 no-entry
+1.34 no-entry
+1.35 no-snap
+1.36 read-only
+1.37 not-dir
+1.38 not-dir
+done
+";
+
 #[test]
 fn replies_are_the_plain_trees(rt: HostRuntime) -> Result<(), Fail> {
     replayed(&rt, REFUSALS, 0, REFUSALS_TEXT)?;
-    replayed(&rt, SNAPSHOTS, 0, SNAPSHOTS_TEXT)
+    replayed(&rt, SNAPSHOTS, 0, SNAPSHOTS_TEXT)?;
+    replayed(&rt, INHERITED, 0, INHERITED_TEXT)?;
+    replayed(&rt, MOVED, 0, MOVED_TEXT)?;
+    replayed(&rt, ROOTED, 0, ROOTED_TEXT)?;
+    replayed(&rt, FILES, 0, FILES_TEXT)?;
+    replayed(&rt, REFUSED_FILES, 0, REFUSED_FILES_TEXT)
+}
+
+// Lines that make so many snapshots of a directory, and what they are answered: the first has this line's number and id.
+fn push_snaps(
+    input: &mut String,
+    text: &mut String,
+    dir: &str,
+    count: u32,
+    line: u32,
+    id: u32,
+) -> Result<(), AllocError> {
+    for number in 0..count {
+        write!(input, "1 mkdir /{dir}/.snap/n{number}\n")?;
+        let number = u64::from(number);
+        let (line, id) = (u64::from(line) + number, u64::from(id) + number);
+        write!(text, "1.{line} ok snap {id}\n")?;
+    }
+    Ok(())
+}
+
+#[test]
+fn snapshots_have_limits(rt: HostRuntime) -> Result<(), Fail> {
+    let alloc = rt.alloc();
+    let mut input = String::from_str(alloc, "clients 1\n1 mkdir /a\n1 mkdir /b\n")?;
+    let mut text = String::from_str(alloc, "1.1 ok\n1.2 ok\n")?;
+    push_snaps(&mut input, &mut text, "a", 100, 3, 2)?;
+    input.push_str("1 mkdir /a/.snap/n0\n1 mkdir /a/.snap/m\n")?;
+    text.push_str("1.103 exists\n1.104 too-many-snaps\n")?;
+    push_snaps(&mut input, &mut text, "b", 28, 105, 102)?;
+    input.push_str("1 mkdir /b/.snap/m\n1 rmdir /a/.snap/n7\n1 mkdir /b/.snap/m\n")?;
+    text.push_str("1.133 too-many-live\n1.134 ok\n1.135 ok snap 130\n")?;
+    input.push_str("schedule\nall\n")?;
+    text.push_str("done\n")?;
+    replayed(&rt, &input, 0, &text)
 }
 
 #[test]
@@ -313,24 +581,21 @@ fn lines_that_no_server_takes_are_named(rt: HostRuntime) -> Result<(), Fail> {
             "# of two\n\nclients 2\n2 mkdir /a\n1 mkdir /b\n",
             "error line 3 bad\n",
         ),
+        ("clients 1\n1 cat /a\nschedule\nall\n", "error line 2 bad\n"),
         (
-            "clients 1\n1 rmdir /a\nschedule\nall\n",
-            "error line 2 bad\n",
-        ),
-        (
-            "clients 1\n1 mkdir /a\n\n1 stat /a\nschedule\nall\n",
+            "clients 1\n1 mkdir /a\n\n1 stat /a/.snap/s\nschedule\nall\n",
             "error line 4 bad\n",
         ),
         (
-            "clients 1\nobjsize 4096\nrestart 3 0\n1 create /a 0644\n",
+            "clients 1\nobjsize 4096\nrestart 3 0\n1 open 1 /a w\n",
             "error line 4 bad\n",
         ),
         (
-            "clients 1\n1 ls /a/.snap\nschedule\nall\n",
+            "clients 1\n1 stat /a/.snap\nschedule\nall\n",
             "error line 2 bad\n",
         ),
         (
-            "clients 1\n1 ls /a/.snap/_s_1\nschedule\nall\n",
+            "clients 1\n1 barrier\nschedule\nall\n",
             "error line 2 bad\n",
         ),
         (

@@ -1,6 +1,6 @@
 use Rattle.std.proofs.Common.{sym, ap, ◌∙◌}
 use Rattle.snap_run.specs.Ends.{first_untaken}
-use Rattle.snap_run.proofs.Decisions.{if_none}
+use Rattle.snap_run.proofs.Verdicts.{if_none}
 use Rattle.snap_run.proofs.Verdicts.{all_taken}
 use Rattle.snap_run.proofs.ends.first_unserved.Goals as goal
 

@@ -1,20 +1,21 @@
 use Rattle.std.proofs.Common.{refl, sym, subst, ◌≤◌, length, List, [], arith}
 use Rattle.plain_types.specs.declared.history.Event.{Event}
-use Rattle.direct_history.specs.Direct.{ServesAfter}
-use Rattle.direct_history.specs.Legal.{numbered}
-use Rattle.snap_run.proofs.Served.{first_step, next_step, room_after, all_served}
+use Rattle.direct_journal.specs.Direct.{ServesAfter}
+use Rattle.direct_journal.specs.Journal.{journal_of}
+use Rattle.direct_journal.specs.Legal.{numbered}
+use Rattle.meta_state.specs.Stands.{StandsFor}
+use Rattle.snap_run.proofs.Served.{next_step, all_served}
 use Rattle.snap_run.proofs.Verdicts.{taken_at, of_one, served, of_one_client}
-use Rattle.direct_history.specs.History.{effects}
 use Rattle.snap_run.proofs.serve.history_of.Goals as goal
 
 pub loop-i-init : goal.loop-i-init
-loop-i-init c =
-    let server = c.in_ok-server.ensures in
-    first_step c.in_ok-server.server c.in_ok-events.events.items server.entries server.newest server.snaps server.made c.in_ok-events.ensures.items
+loop-i-init c = record {
+  stands = subst (λ (events : List Event). StandsFor c.in_ok-meta.meta (journal_of events)) (sym c.in_ok-events.ensures.items) c.in_ok-meta.ensures;
+  serves = subst (λ (events : List Event). ServesAfter [] [] events) (sym c.in_ok-events.ensures.items) tt;
+}
 
-pub serve-requires-clause-room : goal.serve-requires-clause-room
-serve-requires-clause-room c =
-    room_after c.loop-i.server (effects c.loop-i.events.items) c.loop-i.i (length c.args.lines.now) c.loop-i.invariant.stands c.loop-i.invariant.few c.loop-i-test.true c.requires.few
+pub serve-requires-clause-state : goal.serve-requires-clause-state
+serve-requires-clause-state c = record { entries = journal_of c.loop-i.events.items; stands = c.loop-i.invariant.stands }
 
 pub serve-requires-clause-taken : goal.serve-requires-clause-taken
 serve-requires-clause-taken c =
@@ -24,8 +25,8 @@ pub loop-i-preserved : goal.loop-i-preserved
 loop-i-preserved c =
     let line = c.index-lines-i.result in
     let taken = taken_at c.args.lines.now c.loop-i.i line c.requires.taken c.loop-i-test.true c.index-lines-i.is in
-    let room = room_after c.loop-i.server (effects c.loop-i.events.items) c.loop-i.i (length c.args.lines.now) c.loop-i.invariant.stands c.loop-i.invariant.few c.loop-i-test.true c.requires.few in
-    next_step c.loop-i.server c.serve.new.self c.args.lines.now c.loop-i.events.items c.push.new.self.items c.loop-i.i _ line c.in_ok-serve.field-0 c.loop-i-test.true c.index-lines-i.is refl (of_one line taken) room c.loop-i.invariant.stands c.loop-i.invariant.settled c.loop-i.invariant.serves c.in_ok-serve.ensures.served c.in_ok-serve.ensures.made c.in_ok-push.ensures.items c.loop-i.invariant.few
+    let entries = journal_of c.loop-i.events.items in
+    next_step c.serve.new.meta c.args.lines.now c.loop-i.events.items c.push.new.self.items c.loop-i.i _ line c.in_ok-serve.field-0 c.loop-i-test.true c.index-lines-i.is refl (of_one line taken) c.loop-i.invariant.serves (c.in_ok-serve.ensures.served entries c.loop-i.invariant.stands) (c.in_ok-serve.ensures.stands entries c.loop-i.invariant.stands) c.in_ok-push.ensures.items
 
 pub returns : goal.returns
 returns c =

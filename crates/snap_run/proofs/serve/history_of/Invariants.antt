@@ -1,15 +1,13 @@
-use Rattle.std.proofs.Common.{[], ◌≤◌, take, length}
-use Rattle.direct_history.specs.History.{effects}
-use Rattle.direct_history.specs.Direct.{ServesAfter}
-use Rattle.snap_run.specs.Server.{IsSettled}
-use Rattle.snap_run.proofs.Served.{Stands, rising}
+use Rattle.std.proofs.Common.{[], take}
+use Rattle.direct_journal.specs.Direct.{ServesAfter}
+use Rattle.direct_journal.specs.Journal.{journal_of}
+use Rattle.meta_state.specs.Stands.{StandsFor}
+use Rattle.snap_run.proofs.Served.{rising}
 use Rattle.snap_run.proofs.serve.history_of.Given as goal
 
--- the events so far serve the lines so far, and the server stands for their effects, at most one for each line
+-- the events so far serve the lines so far, and the state stands for what they write down
 abbrev pub invariant-loop-i : goal.invariant-loop-i
 invariant-loop-i l = record {
-  stands : Stands l.server (effects l.events.items);
-  settled : IsSettled l.server;
+  stands : StandsFor l.meta (journal_of l.events.items);
   serves : ServesAfter [] (rising 0 (take l.i l.lines)) l.events.items;
-  few : length (effects l.events.items) ≤ l.i;
 }

@@ -1,9 +1,9 @@
 use Rattle.std.proofs.Common.{ℕ, List, [], ◌++◌, ◌∙◌, ap, subst}
 use Rattle.plain_types.specs.declared.script.Line.{Line}
-use Rattle.direct_history.specs.Direct.{ServesAfter}
-use Rattle.direct_history.specs.Legal.{numbered, Legal}
-use Rattle.direct_history.proofs.Direct.{direct_is_legal}
-use Rattle.direct_history.proofs.Replies.{from_snap, from_live}
+use Rattle.direct_journal.specs.Direct.{ServesAfter}
+use Rattle.direct_journal.specs.Legal.{numbered, Legal}
+use Rattle.direct_journal.proofs.Direct.{direct_is_legal}
+use Rattle.direct_journal.proofs.Replies.{from_snap, from_live}
 use Rattle.reply_text.specs.declared.form.Form.TheVariants.{Plain}
 use Rattle.reply_text.specs.Text.{text}
 use Rattle.snap_run.proofs.Verdicts.{of_one_client}

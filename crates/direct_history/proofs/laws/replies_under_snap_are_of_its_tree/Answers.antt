@@ -1,5 +1,0 @@
-use Rattle.direct_history.proofs.Replies.{from_snap}
-use Rattle.direct_history.proofs.laws.replies_under_snap_are_of_its_tree.Goals as goal
-
-pub returns : goal.returns
-returns c = λ lines history. from_snap history lines
