@@ -7,6 +7,7 @@ use Rattle.std.specs.Prelude.{◌==◌, ◌&&◌, ◌||◌, nat_le, is_some, fla
 use Rattle.std.specs.List.{list_any, list_all}
 use Rattle.snap_ids.specs.declared.id.Ino.{Ino}
 use Rattle.snap_ids.specs.declared.id.SnapId.{SnapId}
+use Rattle.snap_ids.specs.Path.{place_of}
 use Rattle.plain_types.specs.declared.answer.Answer.{Answer}
 use Rattle.plain_types.specs.declared.answer.Answer.TheVariants as answer
 use Rattle.plain_types.specs.declared.answer.Refusal.{Refusal}
@@ -25,26 +26,28 @@ use Rattle.plain_types.specs.declared.request.Request.{Request}
 use Rattle.plain_types.specs.declared.request.Request.TheVariants as request
 use Rattle.plain_types.specs.declared.script.Script.{Script}
 use Rattle.plain_tree.specs.Line.{answer_to as answer_to_change}
+use Rattle.plain_tree.specs.Query.{live_only}
 use Rattle.plain_tree.specs.Request.{change_asked}
 use Rattle.plain_journal.specs.Answers.{found, answer_to}
 use Rattle.plain_journal.specs.Entries.{change_in, state_after}
 use Rattle.plain_journal.specs.Table.{answer_kept, last_effect, outstanding, dead}
 use Rattle.step_table.specs.Row.{Row}
+use Rattle.plain_tree.specs.State.{State}
 use Rattle.step_table.specs.ServerState.{Asked, Server, Changed, tell_at, number_of, welcome, all_connected, up_to}
-use Rattle.step_table.specs.Acts.{Act, AnswerIt, GrantIt, MakeEffect, Prepare, Wait, Defer, DeferFirst, TakeHeld, TakeDeferred, TakeOperation, Buffer, act, acts, each, of_client, as_list, first_of, buffer, buffer_for, entry_for, own_entry, written_down}
+use Rattle.step_table.specs.Acts.{Act, AnswerIt, MakeEffect, Prepare, Wait, Defer, DeferFirst, TakeHeld, TakeDeferred, TakeOperation, Buffer, act, acts, each, of_client, as_list, first_of, buffer, buffer_for, entry_for, own_entry, written_down}
 use Rattle.step_table.specs.Requests.{decide_anew, treat, treat_known, treat_new, kept_for, kept_answer, is_operation, decided, make, prepare, is_busy, next_id}
 use Rattle.step_table.specs.Flushes.{asked_by, brought, take_in, connected, treat_brought, come_back, on_drop, on_flush as flush_acts_of}
 use Rattle.step_table.specs.Background.{roll_back, finish, finish_with, least, unsent_purges, turn_operation, turn_deferred, turn_purge, turn_dead, turn_barrier, turn_at, turn, is_due, first_file, first_barrier, waits_at, is_finished, open_to, barrier_of, is_number}
 use Rattle.step_table.specs.ServerRows.{restarts, reported}
 use Rattle.step_table.specs.ClientState.{Client, open_request, new_client}
 use Rattle.step_table.specs.ClientLines.{on_op, on_flush}
-use Rattle.step_table.specs.ClientTakes.{on_told}
+use Rattle.step_table.specs.ClientTakes.{is_success, on_told}
 use Rattle.step_table.specs.World.{start, after, lines_of}
 use Rattle.run_laws.specs.Moments.{steps_of, world_after}
 use Rattle.run_laws.specs.Links.{View, EachClient, Offer, mail_of}
 use Rattle.run_laws.specs.Requests.{IsIt, AllOf, is_of, AllUpTo, AllLess, answer_to_tid, answer_at}
 use Rattle.run_laws.specs.Stamps.{entry_of}
-use Rattle.run_laws.specs.Answered.{CanMake, IsMadeBy, AllMadeBy, AsAsked, asks_change, kept_of, ByKept, RepliesAsKept, AllAsKept, AsKept}
+use Rattle.run_laws.specs.Answered.{CanMake, IsMadeBy, AllMadeBy, AsAsked, asks_change, asks_capability, kept_of, ByKept, RepliesAsKept, AllAsKept, AsKept}
 use Rattle.run_laws.proofs.Acts.{Fit, fit_append, acts_keep, notices_keep}
 use Rattle.run_laws.proofs.Clients.{Keeps, flush_acts, store_hidden}
 use Rattle.run_laws.proofs.Told.{told_row}
@@ -53,7 +56,7 @@ use Rattle.run_laws.proofs.Effects.{last_from, NewAt, EffectFits}
 use Rattle.run_laws.proofs.Fitting.{OkIs}
 use Rattle.run_laws.proofs.Once.{FitsFor, HandOf, first_client, hand_of}
 use Rattle.run_laws.proofs.Strangers.{NoneOf}
-use Rattle.run_laws.proofs.Quiet.{IsQuiet, AllQuiet, Same, quiet_same, quiet_cap, quiet_look, quiet_barrier, IsSilent, AllSilent, silent_flush, silent_drop, silent_back, silent_reported, silent_restarts, silent_dead}
+use Rattle.run_laws.proofs.Quiet.{IsQuiet, AllQuiet, Same, quiet_same, no_success, quiet_look, quiet_stated, quiet_catted, quiet_listed, quiet_realm, quiet_clones, quiet_barrier, IsSilent, AllSilent, silent_cap, silent_flush, silent_drop, silent_back, silent_reported, silent_restarts, silent_dead}
 use Rattle.run_laws.proofs.Making.{can_come, written_in, IsNew, op_new, told_new}
 use Rattle.run_laws.proofs.Buffered.{AllThat, Kind, CarriedKind, Carries, kind_kept, entries_one, NoneBehind, behind_more, behind_shorter, behind_later, behind_all, Ended, ended, ended_rules, first_ended, asking_of, hand_it}
 use Rattle.run_laws.proofs.Views.{Client's, KeptByRows, run_keeps}
@@ -157,27 +160,33 @@ silent_fit : (n : ℕ) (c : Client) (s : Server) (list : List Act) → AllSilent
 silent_fit n c s [] all = tt
 silent_fit n c s (a ∷ list) all = (silent_fits n c s a all.0, silent_fit n c (act s a) list all.1)
 
--- nothing is kept for the request in hand, and it asks for no change: whatever it is answered fits
-abbrev Ready : ℕ → Server → Type 0
-Ready n s = (h : Asked) → s.hand ≡ Some h → of_client n h ≡ true → (asks_change h.request ≡ false) × (kept_of n h.tid s.entries ≡ None)
+-- the request in hand is this one, it asks for no change and no capability, and nothing is kept for it: whatever it is
+-- answered but a success fits
+record Ready (n : ℕ) (asked : Request) (s : Server) : Type 0 where
+  pub asks : asks_change asked ≡ false
+  pub not_cap : asks_capability asked ≡ false
+  pub hand : (h : Asked) → s.hand ≡ Some h → of_client n h ≡ true → (h.request ≡ asked) × (kept_of n h.tid s.entries ≡ None)
 
-ready_says : (n : ℕ) (s : Server) (said : Answer) → Ready n s → HandSays n said s
-ready_says n s said ready h is mine_it = let both_of = ready h is mine_it in subst (λ (o : Option Answer). ByKept h.request o said) (sym both_of.1) (λ asks. absurd (true≢false (sym asks ∙ both_of.0)))
+ready_says : (n : ℕ) (asked : Request) (s : Server) (said : Answer) → is_success asked said ≡ false → Ready n asked s → HandSays n said s
+ready_says n asked s said fails ready h is mine_it =
+    let both_of = ready.hand h is mine_it in
+    subst (λ (q : Request). ByKept q (kept_of n h.tid s.entries) said) (sym both_of.0)
+    (subst (λ (o : Option Answer). ByKept asked o said) (sym both_of.1) (fails, (λ asks. absurd (true≢false (sym asks ∙ ready.asks))), ready.not_cap))
 
-quiet_fits : (n : ℕ) (c : Client) (s : Server) (a : Act) → IsQuiet a → Ready n s → AnswerFits n c s a
-quiet_fits n c s (MakeEffect made) is ready = absurd is
-quiet_fits n c s (AnswerIt said) is ready = ready_says n s said ready
-quiet_fits n c s a is ready = tt
+quiet_fits : (n : ℕ) (c : Client) (asked : Request) (s : Server) (a : Act) → IsQuiet asked a → Ready n asked s → AnswerFits n c s a
+quiet_fits n c asked s (MakeEffect made) is ready = absurd is
+quiet_fits n c asked s (AnswerIt said) is ready = ready_says n asked s said is ready
+quiet_fits n c asked s a is ready = tt
 
-quiet_fit : (n : ℕ) (c : Client) (s : Server) (list : List Act) → AllQuiet list → Ready n s → Fit (AnswerFits n c) s list
-quiet_fit n c s [] all ready = tt
-quiet_fit n c s (a ∷ list) all ready = (quiet_fits n c s a all.0 ready, quiet_fit n c (act s a) list all.1 next)
+quiet_fit : (n : ℕ) (c : Client) (asked : Request) (s : Server) (list : List Act) → AllQuiet asked list → Ready n asked s → Fit (AnswerFits n c) s list
+quiet_fit n c asked s [] all ready = tt
+quiet_fit n c asked s (a ∷ list) all ready = (quiet_fits n c asked s a all.0 ready, quiet_fit n c asked (act s a) list all.1 next)
   where
     same : Same s (act s a)
-    same = quiet_same s a all.0
+    same = quiet_same asked s a all.0
 
-    next : Ready n (act s a)
-    next h is mine_it = let was = ready h (same.hand h is) mine_it in (was.0, ap (kept_of n h.tid) same.entries ∙ was.1)
+    next : Ready n asked (act s a)
+    next = record { asks = ready.asks; not_cap = ready.not_cap; hand = λ h is mine_it. let was = ready.hand h (same.hand h is) mine_it in (was.0, ap (kept_of n h.tid) same.entries ∙ was.1) }
 
 -- the view
 abbrev pub Asks : View
@@ -191,7 +200,7 @@ made_end : (n tid : ℕ) (asked : Request) (entries : List Entry) (e : Entry) �
 made_end n tid asked [] e is all = (is, tt)
 made_end n tid asked (x ∷ entries) e is all = (all.0, made_end n tid asked entries e is all.1)
 
-made_front : (n tid : ℕ) (asked : Request) (entries more : List Entry) → AllMadeBy n tid asked (entries ++ more) → AllMadeBy n tid asked entries
+pub made_front : (n tid : ℕ) (asked : Request) (entries more : List Entry) → AllMadeBy n tid asked (entries ++ more) → AllMadeBy n tid asked entries
 made_front n tid asked [] more all = tt
 made_front n tid asked (e ∷ entries) more all = (all.0, made_front n tid asked entries more all.1)
 
@@ -334,26 +343,32 @@ make_good n c s alone (change.Mksnap id dir name) makes = prepare_good n c s alo
 make_good n c s alone (change.Rmsnap id) makes = prepare_good n c s alone (PrepareDestroy id)
 make_good n c s alone made makes = (makes, (made_says n s made makes, tt))
 
-refused_says : (n : ℕ) (s : Server) (refusal : Refusal) → ((h : Asked) → s.hand ≡ Some h → of_client n h ≡ true → kept_of n h.tid s.entries ≡ None) → HandSays n (answer.Refused refusal) s
-refused_says n s refusal none h is mine_it = subst (λ (o : Option Answer). ByKept h.request o (answer.Refused refusal)) (sym (none h is mine_it)) (λ asks. refl)
+refused_says : (n : ℕ) (s : Server) (refusal : Refusal) → ((h : Asked) → s.hand ≡ Some h → of_client n h ≡ true → (asks_capability h.request ≡ false) × (kept_of n h.tid s.entries ≡ None)) → HandSays n (answer.Refused refusal) s
+refused_says n s refusal none h is mine_it = subst (λ (o : Option Answer). ByKept h.request o (answer.Refused refusal)) (sym (none h is mine_it).1) (no_success h.request (answer.Refused refusal) refl, (λ asks. refl), (none h is mine_it).0)
 
-decided_good : (n : ℕ) (c : Client) (s : Server) (alone : Bool) (a : Asked) (o : Option (Result Change Refusal)) → HandIs n a None s → IfSome o (λ (r : Result Change Refusal). OkIs r (CanMake a.request)) → Good n c s (decided alone s o)
-decided_good n c s alone a None hand can = tt
-decided_good n c s alone a (Some (Err refusal)) hand can = (refused_says n s refusal (λ h is mine_it. (hand h is mine_it).1), tt)
-decided_good n c s alone a (Some (Ok made)) hand can = make_good n c s alone made (λ h is mine_it. subst (λ (q : Request). CanMake q made) (sym (hand h is mine_it).0) can)
+decided_good : (n : ℕ) (c : Client) (s : Server) (alone : Bool) (a : Asked) (o : Option (Result Change Refusal)) → asks_capability a.request ≡ false → HandIs n a None s → IfSome o (λ (r : Result Change Refusal). OkIs r (CanMake a.request)) → Good n c s (decided alone s o)
+decided_good n c s alone a None not_cap hand can = tt
+decided_good n c s alone a (Some (Err refusal)) not_cap hand can = (refused_says n s refusal (λ h is mine_it. let both_of = hand h is mine_it in (ap asks_capability both_of.0 ∙ not_cap, both_of.1)), tt)
+decided_good n c s alone a (Some (Ok made)) not_cap hand can = make_good n c s alone made (λ h is mine_it. subst (λ (q : Request). CanMake q made) (sym (hand h is mine_it).0) can)
 
-ready_for : (n : ℕ) (s : Server) (a : Asked) → asks_change a.request ≡ false → HandIs n a None s → Ready n s
-ready_for n s a asks hand h is mine_it = let both_of = hand h is mine_it in (ap asks_change both_of.0 ∙ asks, both_of.1)
+ready_for : (n : ℕ) (s : Server) (a : Asked) (asked : Request) → asks_change asked ≡ false → asks_capability asked ≡ false → a.request ≡ asked → HandIs n a None s → Ready n asked s
+ready_for n s a asked asks not_cap same hand = record { asks = asks; not_cap = not_cap; hand = λ h is mine_it. let both_of = hand h is mine_it in (both_of.0 ∙ same, both_of.1) }
 
 new_good : (n : ℕ) (c : Client) (s : Server) (alone : Bool) (a : Asked) (asked : Request) → a.request ≡ asked → HandIs n a None s → Good n c s (treat_new alone s a asked)
-new_good n c s alone a (request.Cap ino mode) same hand = quiet_fit n c s _ (quiet_cap s a.client ino mode (GrantIt ino mode) tt) (ready_for n s a (ap asks_change same) hand)
-new_good n c s alone a (request.Cat path) same hand = quiet_fit n c s _ (quiet_look s a (answer_to s.entries (query.Cat path)) (found s.entries path)) (ready_for n s a (ap asks_change same) hand)
-new_good n c s alone a (request.Stat path) same hand = quiet_fit n c s _ (quiet_look s a (answer_to s.entries (query.Stat path)) (found s.entries path)) (ready_for n s a (ap asks_change same) hand)
-new_good n c s alone a (request.List path) same hand = quiet_fit n c s (AnswerIt (answer_to s.entries (query.List path)) ∷ []) (tt, tt) (ready_for n s a (ap asks_change same) hand)
-new_good n c s alone a (request.Realm path) same hand = quiet_fit n c s (AnswerIt (answer_to s.entries (query.Realm path)) ∷ []) (tt, tt) (ready_for n s a (ap asks_change same) hand)
-new_good n c s alone a (request.Clones path index) same hand = quiet_fit n c s (AnswerIt (answer_to s.entries (query.Clones path index)) ∷ []) (tt, tt) (ready_for n s a (ap asks_change same) hand)
-new_good n c s alone a (request.Barrier number) same hand = quiet_fit n c s _ (quiet_barrier s number) (ready_for n s a (ap asks_change same) hand)
-new_good n c s alone a asked same hand = decided_good n c s alone a (change_asked (state_after s.entries) a.client (next_id s) asked) hand (subst (λ (q : Request). IfSome (change_asked (state_after s.entries) a.client (next_id s) asked) (λ (r : Result Change Refusal). OkIs r (CanMake q))) (sym same) (can_come (state_after s.entries) a.client (next_id s) asked))
+new_good n c s alone a (request.Cap ino mode) same hand = silent_fit n c s _ (silent_cap s a.client ino mode)
+new_good n c s alone a (request.Cat path) same hand = let asked = request.Cat path in
+    quiet_fit n c asked s _ (quiet_look asked s a (answer_to s.entries (query.Cat path)) (found s.entries path) (quiet_catted s.entries (found s.entries path))) (ready_for n s a asked refl refl same hand)
+new_good n c s alone a (request.Stat path) same hand = let asked = request.Stat path in
+    quiet_fit n c asked s _ (quiet_look asked s a (answer_to s.entries (query.Stat path)) (found s.entries path) (quiet_stated s.entries (found s.entries path))) (ready_for n s a asked refl refl same hand)
+new_good n c s alone a (request.List path) same hand = let asked = request.List path in let said = answer_to s.entries (query.List path) in
+    quiet_fit n c asked s (AnswerIt said ∷ []) (no_success asked said (quiet_listed s.entries (found s.entries path)), tt) (ready_for n s a asked refl refl same hand)
+new_good n c s alone a (request.Realm path) same hand = let asked = request.Realm path in let said = answer_to s.entries (query.Realm path) in
+    quiet_fit n c asked s (AnswerIt said ∷ []) (no_success asked said (quiet_realm s.entries (live_only (state_after s.entries) (place_of path))), tt) (ready_for n s a asked refl refl same hand)
+new_good n c s alone a (request.Clones path index) same hand = let asked = request.Clones path index in let said = answer_to s.entries (query.Clones path index) in
+    quiet_fit n c asked s (AnswerIt said ∷ []) (no_success asked said (quiet_clones s.entries index (live_only (state_after s.entries) (place_of path))), tt) (ready_for n s a asked refl refl same hand)
+new_good n c s alone a (request.Barrier number) same hand = let asked = request.Barrier number in
+    quiet_fit n c asked s _ (quiet_barrier s number) (ready_for n s a asked refl refl same hand)
+new_good n c s alone a asked same hand = decided_good n c s alone a (change_asked (state_after s.entries) a.client (next_id s) asked) (ap asks_capability same) hand (subst (λ (q : Request). IfSome (change_asked (state_after s.entries) a.client (next_id s) asked) (λ (r : Result Change Refusal). OkIs r (CanMake q))) (sym same) (can_come (state_after s.entries) a.client (next_id s) asked))
 
 treat_good : (n : ℕ) (c : Client) (s : Server) (alone : Bool) (a : Asked) → AllOf n (open_request c.under) (as_list s.hand) → HandOf s a.client → IfIt n c a → Good n c s (treat alone s a)
 treat_good n c s alone a all of it = by_test (all_connected s)
@@ -404,10 +419,18 @@ brings_good n c up down s x conn (Some r) all is =
 rolled_none : (n tid : ℕ) (s : Server) (id : SnapId) → kept_of n tid s.entries ≡ None → kept_of n tid (act s (roll_back id)).entries ≡ None
 rolled_none n tid s id none = ap (kept_of n tid) (buffer_same s (own_entry (Rollback id))).0 ∙ kept_more n tid s.entries (own_entry (Rollback id)) refl ∙ none
 
-finish_good : (n : ℕ) (c : Client) (s : Server) (id : SnapId) (a : Asked) (o : Option (Result Change Refusal)) → ((h : Asked) → s.hand ≡ Some h → h ≡ a) → ((h : Asked) → s.hand ≡ Some h → of_client n h ≡ true → kept_of n h.tid s.entries ≡ None) → IfSome o (λ (r : Result Change Refusal). OkIs r (CanMake a.request)) → Good n c s (finish id o)
-finish_good n c s id a None same none can = tt
-finish_good n c s id a (Some (Err refusal)) same none can = (tt, (refused_says n (act s (roll_back id)) refusal (λ h is mine_it. rolled_none n h.tid s id (none h (sym (buffer_same s (own_entry (Rollback id))).1 ∙ is) mine_it)), tt))
-finish_good n c s id a (Some (Ok made)) same none can = by_made made can
+change_no_cap : (state : State) (x : ℕ) (id : SnapId) (asked : Request) → IfSome (change_asked state x id asked) (λ r. asks_capability asked ≡ false)
+change_no_cap state x id (request.Cap ino mode) = tt
+change_no_cap state x id asked = any_some (change_asked state x id asked) refl
+  where
+    any_some : (o : Option (Result Change Refusal)) → asks_capability asked ≡ false → IfSome o (λ r. asks_capability asked ≡ false)
+    any_some None not_cap = tt
+    any_some (Some r) not_cap = not_cap
+
+finish_good : (n : ℕ) (c : Client) (s : Server) (id : SnapId) (a : Asked) (o : Option (Result Change Refusal)) → IfSome o (λ (r : Result Change Refusal). asks_capability a.request ≡ false) → ((h : Asked) → s.hand ≡ Some h → h ≡ a) → ((h : Asked) → s.hand ≡ Some h → of_client n h ≡ true → kept_of n h.tid s.entries ≡ None) → IfSome o (λ (r : Result Change Refusal). OkIs r (CanMake a.request)) → Good n c s (finish id o)
+finish_good n c s id a None not_cap same none can = tt
+finish_good n c s id a (Some (Err refusal)) not_cap same none can = (tt, (refused_says n (act s (roll_back id)) refusal (λ h is mine_it. let was = sym (buffer_same s (own_entry (Rollback id))).1 ∙ is in (ap (λ (x : Asked). asks_capability x.request) (same h was) ∙ not_cap, rolled_none n h.tid s id (none h was mine_it))), tt))
+finish_good n c s id a (Some (Ok made)) not_cap same none can = by_made made can
   where
     makes : (made : Change) → CanMake a.request made → HandMakes n made s
     makes made can h is mine_it = subst (λ (x : Asked). CanMake x.request made) (sym (same h is)) can
@@ -421,16 +444,36 @@ finish_good n c s id a (Some (Ok made)) same none can = by_made made can
     by_made made can = (makes made can, (made_says n s made (makes made can), tt))
 
 -- all are at a barrier: what the client has open is its request for that
-is_barrier : (asked : Request) (number : ℕ) → is_number number (barrier_of asked) ≡ true → (asks_change asked ≡ false) × ((made : Change) → CanMake asked made → ⊥)
-is_barrier (request.Barrier other) number is = (refl, never)
-  where
-    never : (made : Change) → CanMake (request.Barrier other) made → ⊥
-    never (change.Mkdir dir name ino) can = can
-    never made can = can
+abbrev IsBarrier : Request → Type 0
+IsBarrier (request.Barrier number) = Unit {0}
+IsBarrier asked = ⊥
+
+is_barrier : (asked : Request) (number : ℕ) → is_number number (barrier_of asked) ≡ true → IsBarrier asked
+is_barrier (request.Barrier other) number is = tt
 is_barrier asked number is = absurd (true≢false (sym is))
 
+barrier_asks : (asked : Request) → IsBarrier asked → asks_change asked ≡ false
+barrier_asks (request.Barrier number) is = refl
+barrier_asks asked is = absurd is
+
+barrier_no_cap : (asked : Request) → IsBarrier asked → asks_capability asked ≡ false
+barrier_no_cap (request.Barrier number) is = refl
+barrier_no_cap asked is = absurd is
+
+barrier_fails : (asked : Request) (said : Answer) → IsBarrier asked → is_success asked said ≡ false
+barrier_fails (request.Barrier number) said is = refl
+barrier_fails asked said is = absurd is
+
+barrier_makes : (asked : Request) (made : Change) → IsBarrier asked → CanMake asked made → ⊥
+barrier_makes (request.Barrier number) made is can = never made can
+  where
+    never : (made : Change) → CanMake (request.Barrier number) made → ⊥
+    never (change.Mkdir dir name ino) can = can
+    never made can = can
+barrier_makes asked made is can = absurd is
+
 abbrev AtBarrier : Option (ℕ × Request) → Type 0
-AtBarrier o = IfSome o (λ r. (asks_change r.1 ≡ false) × ((made : Change) → CanMake r.1 made → ⊥))
+AtBarrier o = IfSome o (λ r. IsBarrier r.1)
 
 waits_open : (n : ℕ) (o : Option (ℕ × Request)) (number : ℕ) (list : List Asked) → AllOf n o list → list_any (λ (a : Asked). of_client n a && is_number number (barrier_of a.request)) list ≡ true → AtBarrier o
 waits_open n o number [] all is = absurd (true≢false (sym is))
@@ -438,19 +481,23 @@ waits_open n o number (a ∷ list) all is = by_test (of_client n a) (is_number n
   where
     here : (o : Option (ℕ × Request)) → IsIt o a.tid a.request → is_number number (barrier_of a.request) ≡ true → AtBarrier o
     here None it test = tt
-    here (Some r) it test = subst (λ (q : Request). (asks_change q ≡ false) × ((made : Change) → CanMake q made → ⊥)) it.1 (is_barrier a.request number test)
+    here (Some r) it test = subst IsBarrier it.1 (is_barrier a.request number test)
 
     by_test : (b d : Bool) → of_client n a ≡ b → is_number number (barrier_of a.request) ≡ d → ((b && d) || list_any (λ (a : Asked). of_client n a && is_number number (barrier_of a.request)) list) ≡ true → (list_any (λ (a : Asked). of_client n a && is_number number (barrier_of a.request)) list ≡ true → AtBarrier o) → AtBarrier o
     by_test true true mine_it test any go = here o (all.0 mine_it) test
     by_test true false mine_it test any go = go any
     by_test false d mine_it test any go = go any
 
-barrier_ready : (n : ℕ) (c : Client) (s : Server) → AtBarrier (open_request c.under) → AllOf n (open_request c.under) (as_list s.hand) → Made n s.entries (open_request c.under) → Ready n s
-barrier_ready n c s at all made h is mine_it = by_open (open_request c.under) (hand_it n (open_request c.under) s h all is mine_it) at made
+barrier_says : (n : ℕ) (c : Client) (s : Server) (said : Answer) → AtBarrier (open_request c.under) → AllOf n (open_request c.under) (as_list s.hand) → Made n s.entries (open_request c.under) → HandSays n said s
+barrier_says n c s said at all made h is mine_it = by_open (open_request c.under) (hand_it n (open_request c.under) s h all is mine_it) at made
   where
-    by_open : (o : Option (ℕ × Request)) → IsIt o h.tid h.request → AtBarrier o → Made n s.entries o → (asks_change h.request ≡ false) × (kept_of n h.tid s.entries ≡ None)
+    by_open : (o : Option (ℕ × Request)) → IsIt o h.tid h.request → AtBarrier o → Made n s.entries o → ByKept h.request (kept_of n h.tid s.entries) said
     by_open None it at made = absurd it
-    by_open (Some r) it at made = (ap asks_change it.1 ∙ at.0, ap (λ (t : ℕ). kept_of n t s.entries) it.0 ∙ never_kept n r.0 r.1 at.1 s.entries None made refl)
+    by_open (Some r) it at made =
+        let barrier = subst IsBarrier (sym it.1) at in
+        subst (λ (o : Option Answer). ByKept h.request o said)
+        (sym (ap (λ (t : ℕ). kept_of n t s.entries) it.0 ∙ never_kept n r.0 r.1 (λ made can. barrier_makes r.1 made at can) s.entries None made refl))
+        (barrier_fails h.request said barrier, (λ asks. absurd (true≢false (sym asks ∙ barrier_asks h.request barrier))), barrier_no_cap h.request barrier)
 
 open_good : (n : ℕ) (c : Client) (up : List ToServer) (down : List ToClient) (first : Server) (number : ℕ) → AllOf n (open_request c.under) first.held → (list : List ℕ) (s : Server) → Asks n c up down s → list_all (waits_at first number) list ≡ true → Good n c s (flat_map open_to list)
 open_good n c up down first number held [] s all waits = tt
@@ -470,7 +517,7 @@ open_good n c up down first number held (x ∷ list) s all waits =
     this false b is = absurd (true≢false (sym is))
 
     answers : (t : Server) → Asks n c up down t → HandOf t x → HandSays n answer.Done t
-    answers t next of h is mine_it = ready_says n t answer.Done (barrier_ready n c t at (requested_of n c up down t next) next.1) h is mine_it
+    answers t next of h is mine_it = barrier_says n c t answer.Done at (requested_of n c up down t next) next.1 h is mine_it
       where
         its : (x == n) ≡ true
         its = subst (λ (y : ℕ). (y == n) ≡ true) (of h is) mine_it
@@ -506,7 +553,7 @@ turn_good n c up down s all = by_test (all_connected s)
 
     by_operation : (id : SnapId) (o : Option Asked) → s.operation ≡ o → Fine (turn_operation s id o)
     by_operation id None is = tt
-    by_operation id (Some a) is = (tt, finish_good n c (act s TakeOperation) id a (change_asked (state_after s.entries) a.client id a.request) same none (can_come (state_after s.entries) a.client id a.request))
+    by_operation id (Some a) is = (tt, finish_good n c (act s TakeOperation) id a (change_asked (state_after s.entries) a.client id a.request) (change_no_cap (state_after s.entries) a.client id a.request) same none (can_come (state_after s.entries) a.client id a.request))
       where
         same : (h : Asked) → s.operation ≡ Some h → h ≡ a
         same h at = some_same h (sym at ∙ is)
@@ -605,6 +652,31 @@ said_kept = kind_kept SaidWell said_carried (λ n c s a fit. fit.0) (λ n c up d
     as_open : (n : ℕ) (s : Server) (h : Asked) (said : Answer) (o : Option (ℕ × Request)) → IsIt o h.tid h.request → ByKept h.request (kept_of n h.tid s.entries) said → IfSome o (λ r. ByKept r.1 (kept_of n r.0 s.entries) said)
     as_open n s h said None it is = tt
     as_open n s h said (Some r) it is = subst (λ (t : ℕ). ByKept r.1 (kept_of n t s.entries) said) it.0 (subst (λ (q : Request). ByKept q (kept_of n h.tid s.entries) said) it.1 is)
+
+-- so no reply of the connection is to a request for a capability
+abbrev pub NoReplyToCap : ℕ → Option (ℕ × Request) → ToClient → Type 0
+NoReplyToCap conn o (Reply number tid stamp said) = (number == conn) ≡ true → IfSome o (λ r. asks_capability r.1 ≡ false)
+NoReplyToCap conn o m = Unit {0}
+
+makes_no_cap : (asked : Request) (made : Change) → CanMake asked made → asks_capability asked ≡ false
+makes_no_cap (request.Cap ino mode) made can = never made can
+  where
+    never : (made : Change) → CanMake (request.Cap ino mode) made → true ≡ false
+    never (change.Mkdir dir name ino) can = absurd can
+    never made can = absurd can
+makes_no_cap asked made can = refl
+
+pub no_reply_to_cap : (n : ℕ) (c : Client) (entries : List Entry) (m : ToClient) → Made n entries (open_request c.under) → SaidWell n c.conn (open_request c.under) entries m → NoReplyToCap c.conn (open_request c.under) m
+no_reply_to_cap n c entries (Reply number tid stamp said) made well = λ now. by_open (open_request c.under) made (well now).1
+  where
+    by_kept : (r : ℕ × Request) (b : Bool) → asks_capability r.1 ≡ b → AllMadeBy n r.0 r.1 entries → ByKept r.1 (kept_of n r.0 entries) said → b ≡ false
+    by_kept r false is made by = refl
+    by_kept r true is made by = sym is ∙ (subst (λ (o : Option Answer). ByKept r.1 o said) (never_kept n r.0 r.1 (λ it can. true≢false (sym is ∙ makes_no_cap r.1 it can)) entries None made refl) by).2
+
+    by_open : (o : Option (ℕ × Request)) → Made n entries o → IfSome o (λ r. ByKept r.1 (kept_of n r.0 entries) said) → IfSome o (λ r. asks_capability r.1 ≡ false)
+    by_open None made by = tt
+    by_open (Some r) made by = by_kept r (asks_capability r.1) refl made by
+no_reply_to_cap n c entries m made well = tt
 
 pub replied_kept : KeptViews Fits Replied Replied
 replied_kept = both (given (λ n c up down s all. all.0) (λ n c s a fit. fit) asks_kept) said_kept

@@ -17,12 +17,13 @@ use Rattle.step_table.specs.ServerState.{Asked, Holder, Server, Told, Answered, 
 use Rattle.step_table.specs.Acts.{Act, TellRecall, TellAck, AnswerIt, GrantIt, MakeEffect, Prepare, Buffer, Hold, Raise, MarkRecalled, Settled, LetGo, LetAllGo, act, raised, recalled, settled, answer_hand, grant_hand, effect_hand, buffer_for, written_down, prepare_hand, entry_for, buffer}
 use Rattle.step_table.specs.ClientState.{Client}
 use Rattle.run_laws.specs.Links.{View, mail_of}
+use Rattle.run_laws.specs.Tenures.{gone_in}
 use Rattle.run_laws.proofs.Acts.{notices_keep}
 use Rattle.run_laws.proofs.Giving.{MayRise, MyFit, other_holder}
 use Rattle.run_laws.proofs.Linked.{more_mail}
 use Rattle.run_laws.proofs.Moves.{act_keeps}
 use Rattle.run_laws.proofs.Shares.{rank, share, shares, AllGive, give_append, shares_end, shares_same, shares_filter}
-use Rattle.run_laws.proofs.Sharing.{gone_in, Covered}
+use Rattle.run_laws.proofs.Sharing.{Covered}
 use Rattle.run_laws.proofs.Taking.{current_same}
 
 -- the acts that may raise it
@@ -32,8 +33,8 @@ RiseFit n s (Raise x ino upto) = MayRise n x s
 RiseFit n s a = Unit {0}
 
 pub my_rise : (n : ℕ) (c : Client) (s : Server) (a : Act) → MyFit n c s a → RiseFit n s a
-my_rise n c s (Hold h) is = is
-my_rise n c s (Raise x ino upto) is = is
+my_rise n c s (Hold h) is = is.0
+my_rise n c s (Raise x ino upto) is = is.0
 my_rise n c s a is = tt
 
 -- clients and holders are as before

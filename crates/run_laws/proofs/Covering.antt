@@ -31,13 +31,13 @@ use Rattle.run_laws.specs.FlushNumbers.{above, Follow, Counted, flushes_of}
 use Rattle.run_laws.specs.Links.{View, mine, mail_of}
 use Rattle.run_laws.specs.Requests.{Requested}
 use Rattle.run_laws.specs.Stamps.{told_by}
-use Rattle.run_laws.specs.Tenures.{AllReleased}
+use Rattle.run_laws.specs.Tenures.{AllReleased, gone_in, is_release}
 use Rattle.run_laws.proofs.Acts.{Fit, AnyAct, any_fit, notices_keep, KeptByActs, acts_keep, row_keeps}
 use Rattle.run_laws.proofs.Asked.{requests_act}
-use Rattle.run_laws.proofs.Bounding.{my_rise, BoundAt, Bounded, Rising, rising_act}
+use Rattle.run_laws.proofs.Bounding.{my_rise, BoundAt, Bounded, Rising, rising_act, fall_act}
 use Rattle.run_laws.proofs.Channels.{mail_split}
 use Rattle.run_laws.proofs.Counted.{last_take, last_longer}
-use Rattle.run_laws.proofs.Giving.{MyFit, raise_table, lower_table, one_sharing, one_letting, buffer_sharing, letting_buffer, tell_sharing, letting_tell, shares_ino}
+use Rattle.run_laws.proofs.Giving.{MyFit, same_table, lower_table, one_sharing, one_letting, buffer_sharing, letting_buffer, tell_sharing, letting_tell, shares_ino}
 use Rattle.run_laws.proofs.Granting.{treat_my, anew_my}
 use Rattle.run_laws.proofs.Known.{Known, known_made}
 use Rattle.run_laws.proofs.Knowing.{Knows, ruled_fit, anew_fit, knows_cap, take_in_knows, row_if, and_true}
@@ -46,8 +46,8 @@ use Rattle.run_laws.proofs.Numbering.{In, follows_last}
 use Rattle.run_laws.proofs.Once.{hand_of}
 use Rattle.run_laws.proofs.Requested.{Asking, requested}
 use Rattle.run_laws.proofs.Ruled.{CapAt, ruled_treat}
-use Rattle.run_laws.proofs.Shares.{has, shares, gives, AllGive, give_append, both_true, reader_shares, shares_others, shares_same}
-use Rattle.run_laws.proofs.Sharing.{gone_in, is_drop, Lets, GivesAfter, DownAfter, ToldAfter, MailAfter, Covered, DroppedBy, SharesAt, Sharing, Letting}
+use Rattle.run_laws.proofs.Shares.{has, shares, gives, AllGive, give_append, both_true, reader_shares, shares_others, shares_same, shares_filter, shares_gone}
+use Rattle.run_laws.proofs.Sharing.{is_drop, Lets, GivesAfter, DownAfter, ToldAfter, MailAfter, Covered, DroppedBy, SharesAt, Writes, writers_go, Sharing, Letting}
 use Rattle.run_laws.proofs.Releasing.{released_more, released_filter}
 use Rattle.run_laws.proofs.Taking.{Way, Flushes, Fits, ruled, is_number, first_of, after_held, flush_taken, flush_knows, flush_passed, same_way}
 use Rattle.run_laws.proofs.Taking.{by_acts as flushing_by}
@@ -147,9 +147,14 @@ or_second : (a b : Bool) → b ≡ true → (a || b) ≡ true
 or_second true b is = refl
 or_second false b is = is
 
-pub shares_tail : (conn : ℕ) (files : HeldFiles) (under : Under) (m : ToServer) (q : List ToServer) (k : Option ℕ) (p : List ToClient) (table : Ino → ℕ) → SharesAt conn files under (m ∷ q) k p table → SharesAt conn files under q k p table
-shares_tail conn files under m q k p table was = record { cover = was.cover; dropped = drops_less k was.dropped; lets = lets under was.lets; frees = was.frees; grants = was.grants }
+pub shares_tail : (conn : ℕ) (files : HeldFiles) (under : Under) (m : ToServer) (q : List ToServer) (k : Option ℕ) (p : List ToClient) (table : Ino → ℕ) → ((j : ℕ) → k ≡ Some j → (ino : Ino) → 2 ≤ table ino → is_release j ino m ≡ false) → SharesAt conn files under (m ∷ q) k p table → SharesAt conn files under q k p table
+shares_tail conn files under m q k p table free was = record { cover = was.cover; dropped = drops_less k was.dropped; lets = lets under was.lets; frees = was.frees; grants = was.grants; writers = writers_go files files under under (m ∷ q) q table table k (λ j is ino two before. tail j ino (free j is ino two) (before two)) was.writers; says = was.says }
   where
+    tail : (j : ℕ) (ino : Ino) → is_release j ino m ≡ false → Writes files under (m ∷ q) j ino → Writes files under q j ino
+    tail j ino none (inl two) = inl two
+    tail j ino none (inr (inl any)) = inr (inl (sym (ap (λ (b : Bool). b || list_any (is_release j ino) q) none) ∙ any))
+    tail j ino none (inr (inr is)) = inr (inr is)
+
     drops_less : (k : Option ℕ) → DroppedBy (Covered conn (gone_in under) files p) (m ∷ q) table k → DroppedBy (Covered conn (gone_in under) files p) q table k
     drops_less None all = tt
     drops_less (Some j) all = λ ino any is. all ino (or_second (is_drop j ino m) (list_any (is_drop j ino) q) any) is
@@ -169,12 +174,12 @@ pub record Taken (T : ℕ → Ino → ℕ) (n : ℕ) (c : Client) (m : ToServer)
   pub bounded : Bounded T n c (m ∷ up) down s
   pub one : OneWriter s.holders
 
-pub popped_with : (T : ℕ → Ino → ℕ) (n : ℕ) (c : Client) (m : ToServer) (up : List ToServer) (down : List ToClient) (s : Server) → Taken T n c m up down s → Flushes n c up down s → Whole T n c up down s
-popped_with T n c m up down s was flushes = (
+pub popped_with : (T : ℕ → Ino → ℕ) (n : ℕ) (c : Client) (m : ToServer) (up : List ToServer) (down : List ToClient) (s : Server) → Taken T n c m up down s → ((j : ℕ) → number_of s.current n ≡ Some j → (ino : Ino) → is_release j ino m ≡ false) → Flushes n c up down s → Whole T n c up down s
+popped_with T n c m up down s was free flushes = (
   (was.knows, flushes),
   (
     requested.pops n c m up down s was.asking,
-    ((shares_tail c.conn c.files c.under m up (number_of s.current n) (down ++ mail_of n s.mail) (λ ino. shares n ino s.holders) was.sharing, was.letting), inr was.bounded),
+    ((shares_tail c.conn c.files c.under m up (number_of s.current n) (down ++ mail_of n s.mail) (λ ino. shares n ino s.holders) (λ j is ino two. free j is ino) was.sharing, was.letting), inr was.bounded),
   ),
 )
 
@@ -184,7 +189,7 @@ own_ask T n c conn tid asked up down s was =
     (λ may. taken (and_true (is_current s n conn) (knows_asked s asked) may).0 (knows_cap s asked (and_true (is_current s n conn) (knows_asked s asked) may).1)) (hands_owns T n c up down s popped)
   where
     popped : Whole T n c up down s
-    popped = popped_with T n c (Ask conn tid asked) up down s was (same_way n c (Ask conn tid asked) up down s (λ k. refl) was.flushes)
+    popped = popped_with T n c (Ask conn tid asked) up down s was (λ j is ino. refl) (same_way n c (Ask conn tid asked) up down s (λ k. refl) was.flushes)
 
     taken : is_current s n conn ≡ true → CapAt s.entries asked → Server's (Owns T) n c up down (ask s (asked_by n tid asked))
     taken now cap =
@@ -228,7 +233,7 @@ other_file n x ino h other is = by_test (h.client == n) (same_ino h.ino ino) (di
     by_test false b isnt = refl
 
 let_one_go : (n : ℕ) (c : Client) (up : List ToServer) (down : List ToClient) (s : Server) (ino : Ino) → ((x : Ino) → is_ino x ino ≡ true → Covered c.conn (gone_in c.under) c.files (down ++ mail_of n s.mail) x 0) → Sharing n c up down s → Sharing n c up down (act s (LetGo n ino))
-let_one_go n c up down s ino none was = lower_table c.conn c.files c.under up (number_of s.current n) (down ++ mail_of n s.mail) (λ x. shares n x s.holders) (λ x. shares n x (filter (λ h. not (is_holder n ino h)) s.holders)) (λ x. by_test x (is_ino x ino) refl) was
+let_one_go n c up down s ino none was = lower_table c.conn c.files c.under up (number_of s.current n) (down ++ mail_of n s.mail) (λ x. shares n x s.holders) (λ x. shares n x (filter (λ h. not (is_holder n ino h)) s.holders)) (λ x. shares_filter n x (λ h. not (is_holder n ino h)) s.holders) (λ x. by_test x (is_ino x ino) refl) was
   where
     by_test : (x : Ino) (b : Bool) → is_ino x ino ≡ b → (shares n x (filter (λ h. not (is_holder n ino h)) s.holders) ≡ shares n x s.holders) ⊎ Covered c.conn (gone_in c.under) c.files (down ++ mail_of n s.mail) x 0
     by_test x true is = inr (none x is)
@@ -238,7 +243,7 @@ pub own_drop : (T : ℕ → Ino → ℕ) (n : ℕ) (c : Client) (conn : ℕ) (in
 own_drop T n c conn ino up down s was = row_if (Server's (Owns T) n c up down) (is_current s n conn) (row_of s (on_drop n s ino)) (drops s) (λ now. after_held (by_whole T n c up down) (2 + length s.held) s (on_drop n s ino) (taken now (list_any (λ h. is_holder n ino h && not (is_write h.mode)) s.holders) refl)) (hands_owns T n c up down s popped)
   where
     popped : Whole T n c up down s
-    popped = popped_with T n c (DropRead conn ino) up down s was (same_way n c (DropRead conn ino) up down s (λ k. refl) was.flushes)
+    popped = popped_with T n c (DropRead conn ino) up down s was (λ j is ino. refl) (same_way n c (DropRead conn ino) up down s (λ k. refl) was.flushes)
 
     none : is_current s n conn ≡ true → list_any (λ h. is_holder n ino h && not (is_write h.mode)) s.holders ≡ true → (x : Ino) → is_ino x ino ≡ true → Covered c.conn (gone_in c.under) c.files (down ++ mail_of n s.mail) x 0
     none now any x is = dropped_at (Covered c.conn (gone_in c.under) c.files (down ++ mail_of n s.mail)) (DropRead conn ino ∷ up) (λ y. shares n y s.holders) (number_of s.current n) conn (current_number (number_of s.current n) conn now) was.sharing.dropped x (head_drop conn x ino (list_any (is_drop conn x) up) is)
@@ -296,6 +301,9 @@ mail_none n conn gone kept entries x never counted (m ∷ mail) all = one m.1.to
         by_test false is = rest
     one to y after rest = rest
 
+next_number : (n : ℕ) (c : Client) (down : List ToClient) (s : Server) (W : ℕ → Type 0) (f : FlushMsg) (rest : List FlushMsg) → f ∷ rest ≡ above (last_flush s.entries n) c.unacked → In n c.flushes c.unacked W down s → f.number ≡ last_flush s.entries n + 1
+next_number n c down s W f rest same fl = (subst (Follow (last_flush s.entries n) c.flushes) (sym same) (follows_last n c.flushes c.unacked W down s.entries s.durable s.mail fl)).0
+
 release_none : (n : ℕ) (c : Client) (up : List ToServer) (down : List ToClient) (s : Server) (W : ℕ → Type 0) (f : FlushMsg) (rest : List FlushMsg) (x : Ino) → f ∷ rest ≡ above (last_flush s.entries n) c.unacked → In n c.flushes c.unacked W down s → (f.release && is_ino x f.ino) ≡ true → Letting n c up down s → Covered c.conn (gone_in c.under) c.files (down ++ mail_of n s.mail) x 0
 release_none n c up down s W f rest x same fl is was = (
   held (was.held x),
@@ -305,7 +313,7 @@ release_none n c up down s W f rest x same fl is was = (
 )
   where
     next : f.number ≡ last_flush s.entries n + 1
-    next = (subst (Follow (last_flush s.entries n) c.flushes) (sym same) (follows_last n c.flushes c.unacked W down s.entries s.durable s.mail fl)).0
+    next = next_number n c down s W f rest same fl
 
     never : (low : ℕ) → low ≤ last_flush s.entries n → AllReleased x low c.unacked → ⊥
     never low less all =
@@ -322,7 +330,7 @@ owns_ack T n c up down s x number o = ((tell_sharing n c up down s x (Acked numb
 
 owns_settled : (T : ℕ → Ino → ℕ) (n : ℕ) (c : Client) (up : List ToServer) (down : List ToClient) (s : Server) (x : ℕ) (file : Ino) (upto : SnapId) → Owns T n c up down s → Owns T n c up down (act s (Settled x file upto))
 owns_settled T n c up down s x file upto o = (
-  (raise_table c.conn c.files c.under up (number_of s.current n) (down ++ mail_of n s.mail) (λ ino. shares n ino s.holders) (λ ino. shares n ino (map (settled x file upto) s.holders)) (λ ino. let e = shares_same n ino (settled x file upto) s.holders (λ h. refl) in omega (arith, e)) o.0.0, o.0.1),
+  (same_table c.conn c.files c.under up (number_of s.current n) (down ++ mail_of n s.mail) (λ ino. shares n ino s.holders) (λ ino. shares n ino (map (settled x file upto) s.holders)) (λ ino. shares_same n ino (settled x file upto) s.holders (λ h. refl)) o.0.0, o.0.1),
   rising_act T n c up down s (Settled x file upto) tt o.1,
 )
 
@@ -335,11 +343,11 @@ own_flush T n c conn f up down s fits known was = rw fits (by_current (is_number
     e : Entry
     e = record { client = n; number = f.number; what = flush_entry f }
 
-    start : Sharing n c up down s
-    start = shares_tail c.conn c.files c.under (Flush conn f) up (number_of s.current n) (down ++ mail_of n s.mail) (λ ino. shares n ino s.holders) was.sharing
+    all : List ToServer
+    all = Flush conn f ∷ up
 
-    entered : Owns T n c up down (buffer s e)
-    entered = ((buffer_sharing n c up down s e start, letting_buffer n c up down s e was.knows.fits was.letting), rising_act T n c up down s (Buffer e) tt (inr was.bounded))
+    entered : Owns T n c all down (buffer s e)
+    entered = ((buffer_sharing n c all down s e was.sharing, letting_buffer n c all down s e was.knows.fits was.letting), rising_act T n c all down s (Buffer e) tt (inr was.bounded))
 
     here : is_number conn (number_of s.current n) ≡ true → (k : ℕ) × (number_of s.current n ≡ Some k) × (f ∷ flushes_of k up ≡ above (last_flush s.entries n) c.unacked)
     here test = first_of (number_of s.current n) conn f up c.unacked (last_flush s.entries n) test was.flushes.way
@@ -348,23 +356,52 @@ own_flush T n c conn f up down s fits known was = rw fits (by_current (is_number
     none test rel x is = let first = here test in
         covered_buffer n c down x 0 s e (release_none n c up down s (Way (number_of s.current n) (Flush conn f ∷ up) c.unacked) f (flushes_of first.0 up) x first.2 was.flushes (rw (rel, is) refl) was.letting)
 
-    by_release : is_number conn (number_of s.current n) ≡ true → (r : Bool) → f.release ≡ r → Owns T n c up down (act (buffer s e) (cond r (LetGo n f.ino) (Settled n f.ino f.upto)))
-    by_release test true rel = ((let_one_go n c up down (buffer s e) f.ino (none test rel) entered.0.0, entered.0.1), rising_act T n c up down (buffer s e) (LetGo n f.ino) tt entered.1)
-    by_release test false rel = owns_settled T n c up down (buffer s e) n f.ino f.upto entered
+    by_release : is_number conn (number_of s.current n) ≡ true → (r : Bool) → f.release ≡ r → Owns T n c all down (act (buffer s e) (cond r (LetGo n f.ino) (Settled n f.ino f.upto)))
+    by_release test true rel = ((let_one_go n c all down (buffer s e) f.ino (none test rel) entered.0.0, entered.0.1), rising_act T n c all down (buffer s e) (LetGo n f.ino) tt entered.1)
+    by_release test false rel = owns_settled T n c all down (buffer s e) n f.ino f.upto entered
 
-    owns : is_number conn (number_of s.current n) ≡ true → (b : Bool) → Owns T n c up down (acts s (cond b [] (Buffer e ∷ flush_settles n f ∷ []) ++ TellAck n f.number ∷ []))
-    owns test true = owns_ack T n c up down s n f.number ((start, was.letting), inr was.bounded)
-    owns test false = owns_ack T n c up down (act (buffer s e) (flush_settles n f)) n f.number (by_release test f.release refl)
+    owns : is_number conn (number_of s.current n) ≡ true → (b : Bool) → Owns T n c all down (acts s (cond b [] (Buffer e ∷ flush_settles n f ∷ []) ++ TellAck n f.number ∷ []))
+    owns test true = owns_ack T n c all down s n f.number ((was.sharing, was.letting), inr was.bounded)
+    owns test false = owns_ack T n c all down (act (buffer s e) (flush_settles n f)) n f.number (by_release test f.release refl)
+
+    -- what it releases is in the table no more
+    freed : is_number conn (number_of s.current n) ≡ true → (b : Bool) → nat_le f.number (last_flush s.entries n) ≡ b → (ino : Ino) → 2 ≤ shares n ino (acts s (cond b [] (Buffer e ∷ flush_settles n f ∷ []) ++ TellAck n f.number ∷ [])).holders → (f.release && is_ino ino f.ino) ≡ false
+    freed test true old ino two = let first = here test in let new = next_number n c down s (Way (number_of s.current n) (Flush conn f ∷ up) c.unacked) f (flushes_of first.0 up) first.2 was.flushes in absurd (above_it new old)
+      where
+        above_it : f.number ≡ last_flush s.entries n + 1 → nat_le f.number (last_flush s.entries n) ≡ true → ⊥
+        above_it new old = grind (arith, nat_tests, new, old)
+    freed test false new ino two = by_cases f.release (is_ino ino f.ino) refl (let less = fall_act n (act (buffer s e) (flush_settles n f)) (TellAck n f.number) tt ino in omega (arith, less, two))
+      where
+        by_cases : (r i : Bool) → is_ino ino f.ino ≡ i → 2 ≤ shares n ino (act (buffer s e) (cond r (LetGo n f.ino) (Settled n f.ino f.upto))).holders → (r && i) ≡ false
+        by_cases true true is two = let zero_now = shares_gone n ino f.ino (buffer s e).holders is in absurd (omega (arith, zero_now, two))
+        by_cases true false is two = refl
+        by_cases false i is two = refl
+
+    popped : is_number conn (number_of s.current n) ≡ true → Owns T n c up down (acts s (flush_rule n s f))
+    popped test = let t = acts s (flush_rule n s f) in let done = owns test (nat_le f.number (last_flush s.entries n)) in (
+      (shares_tail c.conn c.files c.under (Flush conn f) up (number_of t.current n) (down ++ mail_of n t.mail) (λ ino. shares n ino t.holders) (λ j is ino two. no_match (conn == j) (f.release && is_ino ino f.ino) (freed test (nat_le f.number (last_flush s.entries n)) refl ino two)) done.0.0, done.0.1),
+      done.1,
+    )
+      where
+        no_match : (a b : Bool) → b ≡ false → (a && b) ≡ false
+        no_match true b none = none
+        no_match false b none = refl
 
     whole : is_number conn (number_of s.current n) ≡ true → Whole T n c up down (acts s (flush_rule n s f))
     whole test = (
       (flush_knows n s f was.knows, (flush_taken n c conn f up down s test was.flushes).0),
       (
         acts_keep {F = AnyAct} {Q = Requested n c up down} (λ t a fit r. requests_act n c up down t a r) (flush_rule n s f) s (any_fit s (flush_rule n s f)) (requested.pops n c (Flush conn f) up down s was.asking),
-        owns test (nat_le f.number (last_flush s.entries n)),
+        popped test,
       ),
     )
 
     by_current : (b : Bool) → is_number conn (number_of s.current n) ≡ b → Server's (Owns T) n c up down (cond (b && knows_file s f.ino) (row_of s (flush_rule n s f)) (drops s))
     by_current true test = rw made (after_held (by_whole T n c up down) (2 + length s.held) s (flush_rule n s f) (whole test))
-    by_current false test = hands_owns T n c up down s (popped_with T n c (Flush conn f) up down s was (flush_passed n c conn f up down s test was.flushes))
+    by_current false test = hands_owns T n c up down s (popped_with T n c (Flush conn f) up down s was (λ j is ino. other_number test j is ino) (flush_passed n c conn f up down s test was.flushes))
+      where
+        other_number : is_number conn (number_of s.current n) ≡ false → (j : ℕ) → number_of s.current n ≡ Some j → (ino : Ino) → (conn == j && (f.release && is_ino ino f.ino)) ≡ false
+        other_number test j is ino = ap (λ (b : Bool). b && (f.release && is_ino ino f.ino)) (differs (subst (λ (o : Option ℕ). is_number conn o ≡ false) is test))
+          where
+            differs : (j == conn) ≡ false → (conn == j) ≡ false
+            differs isnt = grind (arith, nat_tests, isnt)

@@ -28,7 +28,7 @@ use Rattle.plain_types.specs.declared.request.Request.TheVariants as request
 use Rattle.plain_journal.specs.Coverage.{context}
 use Rattle.plain_journal.specs.Table.{last_flush}
 use Rattle.plain_tree.specs.State.{same_ino}
-use Rattle.held_files.specs.Files.{HeldFiles, is_ino}
+use Rattle.held_files.specs.Files.{HeldFiles, is_ino, is_write}
 use Rattle.step_table.specs.ServerState.{Asked, Holder, Server, Told, Answered, Granted, WantedBack, Changed, Acked, message_of, tell, tell_at, number_of, up_to, all_connected, stamp, send, send_client, is_holder}
 use Rattle.step_table.specs.Acts.{Act, TellRecall, TellAck, TellRestart, AnswerIt, GrantIt, MakeEffect, Prepare, Buffer, SendPurge, SendDelete, Hold, Raise, MarkRecalled, Settled, LetGo, LetAllGo, act, of_client, as_list, raised, recalled, settled, answer_hand, grant_hand, effect_hand, buffer_for, written_down, prepare_hand, entry_for, buffer}
 use Rattle.step_table.specs.ClientState.{Client, Under, Idle, Open, AtStore, open_request}
@@ -36,14 +36,14 @@ use Rattle.run_laws.specs.FlushNumbers.{above, flushes_of}
 use Rattle.run_laws.specs.Links.{mail_of}
 use Rattle.run_laws.specs.Requests.{IsIt, AllOf, count, asks, answers, Requested}
 use Rattle.run_laws.specs.Stamps.{told_by}
-use Rattle.run_laws.specs.Tenures.{AllReleased}
+use Rattle.run_laws.specs.Tenures.{AllReleased, gone_in, is_gone, is_release, wants_write}
 use Rattle.run_laws.proofs.Acts.{notices_keep}
 use Rattle.run_laws.proofs.Holders.{or_false}
 use Rattle.run_laws.proofs.Lending.{gone_same}
 use Rattle.run_laws.proofs.Linked.{more_mail}
 use Rattle.run_laws.proofs.Parting.{either_true}
-use Rattle.run_laws.proofs.Shares.{rank, has, share, shares, found_in, gives, give_append, give_more, both_true, or_none, shares_end, shares_same, shares_others, shares_raised}
-use Rattle.run_laws.proofs.Sharing.{gone_in, is_gone, is_release, is_drop, is_cap, AllLet, Lets, CapFree, Frees, IsAsked, GrantAt, AllGrants, GivesAfter, DownAfter, ToldAfter, MailAfter, Covered, CoverBy, DroppedBy, SharesAt, Sharing, Letting}
+use Rattle.run_laws.proofs.Shares.{rank, has, share, shares, found_in, gives, give_append, give_more, both_true, or_none, shares_end, shares_same, shares_others, shares_raised, raised_either}
+use Rattle.run_laws.proofs.Sharing.{is_drop, is_cap, AllLet, Lets, CapFree, Frees, IsAsked, GrantAt, AllGrants, GivesAfter, DownAfter, ToldAfter, MailAfter, Covered, CoverBy, DroppedBy, SharesAt, Says, SaysIn, SaysAt, AllSay, Writes, WritersBy, writers_go, Sharing, Letting}
 use Rattle.run_laws.proofs.Taking.{Way}
 
 -- the request in hand is the open one, and none is on the way
@@ -105,17 +105,22 @@ pub way_released : (k : ℕ) (ino : Ino) (up : List ToServer) (last : ℕ) (kept
 way_released k ino up last kept way none = above_none ino last kept (subst (λ (l : List FlushMsg). list_any (releases ino) l ≡ false) way (none_in k ino up none))
 
 -- A message may be made for the client.
-pub record MayGive (conn : ℕ) (under : Under) (q : List ToServer) (k : Option ℕ) (m : ToClient) (table : Ino → ℕ) : Type 0 where
+pub record MayGive (conn : ℕ) (files : HeldFiles) (under : Under) (q : List ToServer) (k : Option ℕ) (m : ToClient) (table : Ino → ℕ) : Type 0 where
   pub give : CoverBy (λ ino most. gives conn (gone_in under) ino m ≤ most) table k
   pub drop : DroppedBy (λ ino most. gives conn (gone_in under) ino m ≤ most) q table k
   pub grant : GrantAt conn under m
+  pub says : SaysAt conn (gone_in under) files m
 
 grants_end : (conn : ℕ) (under : Under) (p : List ToClient) (m : ToClient) → GrantAt conn under m → AllGrants conn under p → AllGrants conn under (p ++ m ∷ [])
 grants_end conn under [] m is all = (is, tt)
 grants_end conn under (x ∷ p) m is all = (all.0, grants_end conn under p m is all.1)
 
-pub sharing_more : (conn : ℕ) (files : HeldFiles) (under : Under) (q : List ToServer) (k : Option ℕ) (p : List ToClient) (table : Ino → ℕ) (m : ToClient) → MayGive conn under q k m table → SharesAt conn files under q k p table → SharesAt conn files under q k (p ++ m ∷ []) table
-sharing_more conn files under q k p table m may was = record { cover = covers k may.give was.cover; dropped = drops k may.drop was.dropped; lets = was.lets; frees = was.frees; grants = grants_end conn under p m may.grant was.grants }
+say_end : (conn : ℕ) (gone : List Ino) (files : HeldFiles) (p : List ToClient) (m : ToClient) → SaysAt conn gone files m → AllSay conn gone files p → AllSay conn gone files (p ++ m ∷ [])
+say_end conn gone files [] m is all = (is, tt)
+say_end conn gone files (x ∷ p) m is all = (all.0, say_end conn gone files p m is all.1)
+
+pub sharing_more : (conn : ℕ) (files : HeldFiles) (under : Under) (q : List ToServer) (k : Option ℕ) (p : List ToClient) (table : Ino → ℕ) (m : ToClient) → MayGive conn files under q k m table → SharesAt conn files under q k p table → SharesAt conn files under q k (p ++ m ∷ []) table
+sharing_more conn files under q k p table m may was = record { cover = covers k may.give was.cover; dropped = drops k may.drop was.dropped; lets = was.lets; frees = was.frees; grants = grants_end conn under p m may.grant was.grants; writers = was.writers; says = say_end conn (gone_in under) files p m may.says was.says }
   where
     covers : (k : Option ℕ) → CoverBy (λ ino most. gives conn (gone_in under) ino m ≤ most) table k → CoverBy (Covered conn (gone_in under) files p) table k → CoverBy (Covered conn (gone_in under) files (p ++ m ∷ [])) table k
     covers None one all = tt
@@ -141,8 +146,13 @@ silent_grant conn under (Reply k tid st said) is = absurd is
 silent_grant conn under (Grant k tid st file mode size trace) is = absurd is
 silent_grant conn under m is = tt
 
-pub silent_may : (conn : ℕ) (under : Under) (q : List ToServer) (k : Option ℕ) (m : ToClient) (table : Ino → ℕ) → Silent m → MayGive conn under q k m table
-silent_may conn under q k m table is = record { give = gives_at k; drop = drops_at k; grant = silent_grant conn under m is }
+silent_says : (conn : ℕ) (gone : List Ino) (files : HeldFiles) (m : ToClient) → Silent m → SaysAt conn gone files m
+silent_says conn gone files (Reply k tid st said) is = absurd is
+silent_says conn gone files (Grant k tid st ino mode size trace) is = absurd is
+silent_says conn gone files m is = tt
+
+pub silent_may : (conn : ℕ) (files : HeldFiles) (under : Under) (q : List ToServer) (k : Option ℕ) (m : ToClient) (table : Ino → ℕ) → Silent m → MayGive conn files under q k m table
+silent_may conn files under q k m table is = record { give = gives_at k; drop = drops_at k; grant = silent_grant conn under m is; says = silent_says conn (gone_in under) files m is }
   where
     none : (ino : Ino) (most : ℕ) → gives conn (gone_in under) ino m ≤ most
     none ino most = let zero_now = silent_gives conn (gone_in under) ino m is in omega (arith, zero_now)
@@ -165,10 +175,10 @@ shares_ino n x ino (h ∷ holders) is = let rest = shares_ino n x ino holders is
 
 -- a capability that was asked for is granted
 grant_may : (n conn j : ℕ) (files : HeldFiles) (under : Under) (up : List ToServer) (holders : List Holder) (kept : List FlushMsg) (last tid : ℕ) (st : Stamp) (ino : Ino) (mode : Mode) (size : ℕ) (trace : FileTrace)
-    → asks up ≡ 0 → Lets conn under up → Frees files under → flushes_of j up ≡ above last kept → IsAsked under ino mode → rank mode ≤ shares n ino holders → MayGive conn under up (Some j) (Grant j tid st ino mode size trace) (λ x. shares n x holders) × GivesAfter conn (gone_in under) kept last (Grant j tid st ino mode size trace)
+    → asks up ≡ 0 → Lets conn under up → Frees files under → flushes_of j up ≡ above last kept → IsAsked under ino mode → rank mode ≤ shares n ino holders → MayGive conn files under up (Some j) (Grant j tid st ino mode size trace) (λ x. shares n x holders) × GivesAfter conn (gone_in under) kept last (Grant j tid st ino mode size trace)
 grant_may n conn j files Idle up holders kept last tid st ino mode size trace none lets frees way asked less = absurd asked
 grant_may n conn j files (AtStore number entry file head) up holders kept last tid st ino mode size trace none lets frees way asked less = absurd asked
-grant_may n conn j files (Open number open_tid text wanted gone) up holders kept last tid st ino mode size trace none lets frees way asked less = (record { give = give; drop = drop; grant = λ same. asked }, λ x. by_release (j == conn) refl x)
+grant_may n conn j files (Open number open_tid text wanted gone) up holders kept last tid st ino mode size trace none lets frees way asked less = (record { give = give; drop = drop; grant = λ same. asked; says = tt }, λ x. by_release (j == conn) refl x)
   where
     give : (x : Ino) → cond (j == conn && is_ino x ino) (rank mode) 0 ≤ shares n x holders
     give x = by_tests (j == conn) (is_ino x ino) refl
@@ -207,20 +217,24 @@ grant_may n conn j files (Open number open_tid text wanted gone) up holders kept
         by_any true any = inl (rw (test, not_it (let_released conn wanted gone x up lets none (subst (λ (i : ℕ). list_any (is_release i x) up ≡ true) (same_conn test) any)).1) refl)
         by_any false any = inr (way_released j x up last kept way any)
 
--- an answer that finds a file gives no more than the table says
-abbrev pub FoundFit : (Ino → ℕ) → Answer → Type 0
-FoundFit table (answer.FoundLive ino perm size write_held) = write_held ≡ false → 1 ≤ table ino
-FoundFit table said = Unit {0}
+-- an answer that finds a file says what the table says of it, and isn't to who asks for it for Write
+abbrev pub FoundAs : ℕ → Bool → Bool → Type 0
+FoundAs share wants true = (2 ≤ share) × (wants ≡ false)
+FoundAs share wants false = share ≡ 1
 
-found_few : (n : ℕ) (holders : List Holder) (gone : List Ino) (x : Ino) (said : Answer) → FoundFit (λ ino. shares n ino holders) said → found_in gone x said ≤ shares n x holders
-found_few n holders gone x (answer.FoundLive ino perm size write_held) fit = by_tests (is_ino x ino) write_held (is_gone x gone) refl fit
+abbrev pub FoundFit : Under → (Ino → ℕ) → Answer → Type 0
+FoundFit under table (answer.FoundLive ino perm size write_held) = FoundAs (table ino) (wants_write ino under) write_held
+FoundFit under table said = Unit {0}
+
+found_few : (n : ℕ) (under : Under) (holders : List Holder) (gone : List Ino) (x : Ino) (said : Answer) → FoundFit under (λ ino. shares n ino holders) said → found_in gone x said ≤ shares n x holders
+found_few n under holders gone x (answer.FoundLive ino perm size write_held) fit = by_tests (is_ino x ino) write_held (is_gone x gone) refl fit
   where
-    by_tests : (a w g : Bool) → is_ino x ino ≡ a → (w ≡ false → 1 ≤ shares n ino holders) → cond (a && not w && not g) 1 0 ≤ shares n x holders
-    by_tests true false false is fit = let same = shares_ino n x ino holders is in let one = fit refl in omega (arith, same, one)
+    by_tests : (a w g : Bool) → is_ino x ino ≡ a → FoundAs (shares n ino holders) (wants_write ino under) w → cond (a && not w && not g) 1 0 ≤ shares n x holders
+    by_tests true false false is fit = let same = shares_ino n x ino holders is in let one : shares n ino holders ≡ 1 = fit in omega (arith, same, one)
     by_tests true false true is fit = omega arith
     by_tests true true g is fit = omega arith
     by_tests false w g is fit = omega arith
-found_few n holders gone x said fit = omega arith
+found_few n under holders gone x said fit = omega arith
 
 found_gone : (gone : List Ino) (x : Ino) (said : Answer) → is_gone x gone ≡ true → found_in gone x said ≤ 0
 found_gone gone x (answer.FoundLive ino perm size write_held) is = by_tests (is_ino x ino) write_held (is_gone x gone) is
@@ -233,19 +247,32 @@ found_gone gone x (answer.FoundLive ino perm size write_held) is = by_tests (is_
 found_gone gone x said is = omega arith
 
 found_may : (n conn j : ℕ) (files : HeldFiles) (under : Under) (up : List ToServer) (holders : List Holder) (kept : List FlushMsg) (last tid : ℕ) (st : Stamp) (said : Answer) (open_tid : ℕ) (wanted : Request)
-    → asks up ≡ 0 → Lets conn under up → flushes_of j up ≡ above last kept → IsIt (open_request under) open_tid wanted → FoundFit (λ x. shares n x holders) said → MayGive conn under up (Some j) (Reply j tid st said) (λ x. shares n x holders) × GivesAfter conn (gone_in under) kept last (Reply j tid st said)
-found_may n conn j files Idle up holders kept last tid st said open_tid wanted none lets way it fit = absurd it
-found_may n conn j files (AtStore number entry file head) up holders kept last tid st said open_tid wanted none lets way it fit = absurd it
-found_may n conn j files (Open number t text asked gone) up holders kept last tid st said open_tid wanted none lets way it fit = (record { give = give; drop = drop; grant = tt }, after)
+    → asks up ≡ 0 → Lets conn under up → flushes_of j up ≡ above last kept → IsIt (open_request under) open_tid wanted → FoundFit under (λ x. shares n x holders) said → ((x : Ino) → has x files ≤ shares n x holders) → ((x : Ino) → 2 ≤ shares n x holders → Writes files under up j x) → MayGive conn files under up (Some j) (Reply j tid st said) (λ x. shares n x holders) × GivesAfter conn (gone_in under) kept last (Reply j tid st said)
+found_may n conn j files Idle up holders kept last tid st said open_tid wanted none lets way it fit cover writers = absurd it
+found_may n conn j files (AtStore number entry file head) up holders kept last tid st said open_tid wanted none lets way it fit cover writers = absurd it
+found_may n conn j files (Open number t text asked gone) up holders kept last tid st said open_tid wanted none lets way it fit cover writers = (record { give = give; drop = drop; grant = tt; says = λ now. says now said fit }, after)
   where
     same_conn : (j == conn) ≡ true → j ≡ conn
     same_conn test = grind (arith, nat_tests, test)
+
+    writes : (j == conn) ≡ true → (x : Ino) → is_gone x gone ≡ false → wants_write x (Open number t text asked gone) ≡ false → Writes files (Open number t text asked gone) up j x → 2 ≤ has x files
+    writes now x left not_asked (inl two) = two
+    writes now x left not_asked (inr (inl any)) = absurd (true≢false (sym (let_released conn asked gone x up lets none (subst (λ (i : ℕ). list_any (is_release i x) up ≡ true) (same_conn now) any)).0 ∙ left))
+    writes now x left not_asked (inr (inr is)) = absurd (true≢false (sym is ∙ not_asked))
+
+    says : (j == conn) ≡ true → (said : Answer) → FoundFit (Open number t text asked gone) (λ x. shares n x holders) said → SaysIn gone files said
+    says now (answer.FoundLive ino perm size write_held) fit = λ left. by_held write_held fit left
+      where
+        by_held : (w : Bool) → FoundAs (shares n ino holders) (wants_write ino (Open number t text asked gone)) w → is_gone ino gone ≡ false → Says (has ino files) w
+        by_held true fit left = writes now ino left fit.1 (writers ino fit.0)
+        by_held false fit left = let few = cover ino in let one : shares n ino holders ≡ 1 = fit in omega (arith, few, one)
+    says now said fit = tt
 
     give : (x : Ino) → cond (j == conn) (found_in gone x said) 0 ≤ shares n x holders
     give x = by_test (j == conn)
       where
         by_test : (b : Bool) → cond b (found_in gone x said) 0 ≤ shares n x holders
-        by_test true = found_few n holders gone x said fit
+        by_test true = found_few n (Open number t text asked gone) holders gone x said fit
         by_test false = omega arith
 
     drop : (x : Ino) → list_any (is_drop j x) up ≡ true → shares n x holders ≡ 1 → cond (j == conn) (found_in gone x said) 0 ≤ 0
@@ -267,9 +294,13 @@ found_may n conn j files (Open number t text asked gone) up holders kept last ti
         by_test false test = inl refl
 
 -- the server's table changes
-pub raise_table : (conn : ℕ) (files : HeldFiles) (under : Under) (q : List ToServer) (k : Option ℕ) (p : List ToClient) (table more : Ino → ℕ) → ((ino : Ino) → table ino ≤ more ino) → SharesAt conn files under q k p table → SharesAt conn files under q k p more
-raise_table conn files under q k p table more less was = record { cover = covers k was.cover; dropped = drops k was.cover was.dropped; lets = was.lets; frees = was.frees; grants = was.grants }
+pub raise_table : (conn : ℕ) (files : HeldFiles) (under : Under) (q : List ToServer) (k : Option ℕ) (p : List ToClient) (table more : Ino → ℕ) → ((ino : Ino) → table ino ≤ more ino) → ((ino : Ino) → 2 ≤ more ino → (2 ≤ table ino) ⊎ (wants_write ino under ≡ true)) → SharesAt conn files under q k p table → SharesAt conn files under q k p more
+raise_table conn files under q k p table more less wants was = record { cover = covers k was.cover; dropped = drops k was.cover was.dropped; lets = was.lets; frees = was.frees; grants = was.grants; writers = writers_go files files under under q q table more k (λ j is ino two before. by_share j ino before (wants ino two)) was.writers; says = was.says }
   where
+    by_share : (j : ℕ) (ino : Ino) → (2 ≤ table ino → Writes files under q j ino) → (2 ≤ table ino) ⊎ (wants_write ino under ≡ true) → Writes files under q j ino
+    by_share j ino before (inl two) = before two
+    by_share j ino before (inr is) = inr (inr is)
+
     covers : (k : Option ℕ) → CoverBy (Covered conn (gone_in under) files p) table k → CoverBy (Covered conn (gone_in under) files p) more k
     covers None all = tt
     covers (Some j) all = λ ino. ((let one = (all ino).0 in let few = less ino in omega (arith, one, few)), give_more conn (gone_in under) ino (table ino) (more ino) p (less ino) (all ino).1)
@@ -283,9 +314,13 @@ raise_table conn files under q k p table more less was = record { cover = covers
         by_rank ino any (suc zero) is few = before ino any is
         by_rank ino any (suc (suc t)) is few = absurd (omega (arith, few))
 
+-- it stays
+pub same_table : (conn : ℕ) (files : HeldFiles) (under : Under) (q : List ToServer) (k : Option ℕ) (p : List ToClient) (table more : Ino → ℕ) → ((ino : Ino) → more ino ≡ table ino) → SharesAt conn files under q k p table → SharesAt conn files under q k p more
+same_table conn files under q k p table more same was = raise_table conn files under q k p table more (λ ino. let e = same ino in omega (arith, e)) (λ ino two. inl (let e = same ino in omega (arith, e, two))) was
+
 -- it falls where nothing is held or given
-pub lower_table : (conn : ℕ) (files : HeldFiles) (under : Under) (q : List ToServer) (k : Option ℕ) (p : List ToClient) (table less : Ino → ℕ) → ((ino : Ino) → (less ino ≡ table ino) ⊎ Covered conn (gone_in under) files p ino 0) → SharesAt conn files under q k p table → SharesAt conn files under q k p less
-lower_table conn files under q k p table less same was = record { cover = covers k was.cover; dropped = drops k was.dropped; lets = was.lets; frees = was.frees; grants = was.grants }
+pub lower_table : (conn : ℕ) (files : HeldFiles) (under : Under) (q : List ToServer) (k : Option ℕ) (p : List ToClient) (table less : Ino → ℕ) → ((ino : Ino) → less ino ≤ table ino) → ((ino : Ino) → (less ino ≡ table ino) ⊎ Covered conn (gone_in under) files p ino 0) → SharesAt conn files under q k p table → SharesAt conn files under q k p less
+lower_table conn files under q k p table less falls same was = record { cover = covers k was.cover; dropped = drops k was.dropped; lets = was.lets; frees = was.frees; grants = was.grants; writers = writers_go files files under under q q table less k (λ j is ino two before. before (let few = falls ino in omega (arith, few, two))) was.writers; says = was.says }
   where
     rise : (ino : Ino) (most : ℕ) → Covered conn (gone_in under) files p ino 0 → Covered conn (gone_in under) files p ino most
     rise ino most none = ((let zero_now = none.0 in omega (arith, zero_now)), give_more conn (gone_in under) ino 0 most p (omega arith) none.1)
@@ -326,15 +361,15 @@ MayRise n x s = (all_connected s ≡ true) ⊎ ((x == n) ≡ false)
 -- an act fits the view of a client: it is given no more than the table says, and its files aren't let go
 abbrev pub MyFit : ℕ → Client → Server → Act → Type 0
 MyFit n c s (GrantIt ino mode) = (a : Asked) → s.hand ≡ Some a → of_client n a ≡ true → IsAsked c.under ino mode × (rank mode ≤ shares n ino s.holders)
-MyFit n c s (AnswerIt said) = (a : Asked) → s.hand ≡ Some a → of_client n a ≡ true → FoundFit (λ ino. shares n ino s.holders) said
+MyFit n c s (AnswerIt said) = (a : Asked) → s.hand ≡ Some a → of_client n a ≡ true → FoundFit c.under (λ ino. shares n ino s.holders) said
 MyFit n c s (LetGo x ino) = (x == n) ≡ false
 MyFit n c s (LetAllGo x) = (x == n) ≡ false
-MyFit n c s (Hold h) = MayRise n h.client s
-MyFit n c s (Raise x ino upto) = MayRise n x s
+MyFit n c s (Hold h) = MayRise n h.client s × ((h.client == n) ≡ true → is_write h.mode ≡ true → wants_write h.ino c.under ≡ true)
+MyFit n c s (Raise x ino upto) = MayRise n x s × ((x == n) ≡ true → wants_write ino c.under ≡ true)
 MyFit n c s a = Unit {0}
 
 -- what is sent
-pub send_sharing : (n : ℕ) (c : Client) (up : List ToServer) (down : List ToClient) (s : Server) (x : ℕ) (m : ToClient) → ((x == n) ≡ true → MayGive c.conn c.under up (number_of s.current n) m (λ ino. shares n ino s.holders)) → Sharing n c up down s → Sharing n c up down (send_client s x m)
+pub send_sharing : (n : ℕ) (c : Client) (up : List ToServer) (down : List ToClient) (s : Server) (x : ℕ) (m : ToClient) → ((x == n) ≡ true → MayGive c.conn c.files c.under up (number_of s.current n) m (λ ino. shares n ino s.holders)) → Sharing n c up down s → Sharing n c up down (send_client s x m)
 send_sharing n c up down s x m may was = more_mail Now n down s.mail (length s.entries, record { to = x; message = message.ToClient m }) (by_test (x == n) refl)
   where
     Now : List ToClient → Type 0
@@ -366,7 +401,7 @@ tell_sharing n c up down s x told is was = by_number (number_of s.current x)
   where
     by_number : (o : Option ℕ) → Sharing n c up down (tell_at s x told o)
     by_number None = was
-    by_number (Some j) = send_sharing n c up down s x (message_of s j told) (λ to. silent_may c.conn c.under up (number_of s.current n) (message_of s j told) (λ ino. shares n ino s.holders) (silent_message s j told is)) was
+    by_number (Some j) = send_sharing n c up down s x (message_of s j told) (λ to. silent_may c.conn c.files c.under up (number_of s.current n) (message_of s j told) (λ ino. shares n ino s.holders) (silent_message s j told is)) was
 
 pub buffer_sharing : (n : ℕ) (c : Client) (up : List ToServer) (down : List ToClient) (s : Server) (e : Entry) → Sharing n c up down s → Sharing n c up down (buffer s e)
 buffer_sharing n c up down s e was = notices_keep (Sharing n c up down) (λ t x inos so. tell_sharing n c up down t x (Changed inos) tt so) s.entries (up_to s.clients) (record s { entries = s.entries ++ e ∷ [] }) was
@@ -387,26 +422,54 @@ way_here (Some i) j up kept last is way = subst (λ (x : ℕ). flushes_of x up �
 
 -- the message for the request in hand
 hand_grant : (n : ℕ) (c : Client) (up : List ToServer) (down : List ToClient) (s : Server) (a : Asked) (ino : Ino) (mode : Mode) (j : ℕ) → s.hand ≡ Some a → number_of s.current a.client ≡ Some j → (a.client == n) ≡ true → MyFit n c s (GrantIt ino mode) → Requested n c up down s → Way (number_of s.current n) up c.unacked (last_flush s.entries n) → Sharing n c up down s
-    → MayGive c.conn c.under up (Some j) (message_of (record s { hand = None }) j (Granted a.tid ino mode)) (λ x. shares n x s.holders) × GivesAfter c.conn (gone_in c.under) c.unacked (last_flush s.entries n) (message_of (record s { hand = None }) j (Granted a.tid ino mode))
+    → MayGive c.conn c.files c.under up (Some j) (message_of (record s { hand = None }) j (Granted a.tid ino mode)) (λ x. shares n x s.holders) × GivesAfter c.conn (gone_in c.under) c.unacked (last_flush s.entries n) (message_of (record s { hand = None }) j (Granted a.tid ino mode))
 hand_grant n c up down s a ino mode j is number at fit r way was =
     grant_may n c.conn j c.files c.under up s.holders c.unacked (last_flush s.entries n) _ _ ino mode _ _ (handed n c up down s a r is at).1 was.lets was.frees (way_here (number_of s.current n) j up c.unacked (last_flush s.entries n) (number_here n s a j number at) way) (fit a is at).0 (fit a is at).1
 
 hand_answer : (n : ℕ) (c : Client) (up : List ToServer) (down : List ToClient) (s : Server) (a : Asked) (said : Answer) (j : ℕ) → s.hand ≡ Some a → number_of s.current a.client ≡ Some j → (a.client == n) ≡ true → MyFit n c s (AnswerIt said) → Requested n c up down s → Way (number_of s.current n) up c.unacked (last_flush s.entries n) → Sharing n c up down s
-    → MayGive c.conn c.under up (Some j) (message_of (record s { hand = None }) j (Answered a.tid said)) (λ x. shares n x s.holders) × GivesAfter c.conn (gone_in c.under) c.unacked (last_flush s.entries n) (message_of (record s { hand = None }) j (Answered a.tid said))
+    → MayGive c.conn c.files c.under up (Some j) (message_of (record s { hand = None }) j (Answered a.tid said)) (λ x. shares n x s.holders) × GivesAfter c.conn (gone_in c.under) c.unacked (last_flush s.entries n) (message_of (record s { hand = None }) j (Answered a.tid said))
 hand_answer n c up down s a said j is number at fit r way was =
     let hand = handed n c up down s a r is at in
     found_may n c.conn j c.files c.under up s.holders c.unacked (last_flush s.entries n) _ _ said a.tid a.request hand.1 was.lets (way_here (number_of s.current n) j up c.unacked (last_flush s.entries n) (number_here n s a j number at) way) hand.0 (fit a is at)
+    (λ x. (subst (CoverBy (Covered c.conn (gone_in c.under) c.files (down ++ mail_of n s.mail)) (λ y. shares n y s.holders)) (number_here n s a j number at) was.cover x).0)
+    (subst (WritersBy c.files c.under up (λ y. shares n y s.holders)) (number_here n s a j number at) was.writers)
+
+-- who is held for Write in the table has asked for that
+wants_same : (x ino : Ino) (under : Under) → is_ino x ino ≡ true → wants_write ino under ≡ true → wants_write x under ≡ true
+wants_same x ino (Open number tid text (request.Cap file mode) gone) is wants = by_mode (is_write mode) (both_true (is_ino ino file) (is_write mode) wants)
+  where
+    same : is_ino ino file ≡ true → is_ino x file ≡ true
+    same at = grind (arith, nat_tests, is, at)
+
+    by_mode : (w : Bool) → (is_ino ino file ≡ true) × (w ≡ true) → (is_ino x file && w) ≡ true
+    by_mode w both_are = rw (same both_are.0, both_are.1) refl
+wants_same x ino under is wants = absurd (true≢false (sym wants))
+
+held_wants : (n : ℕ) (under : Under) (ino : Ino) (h : Holder) (holders : List Holder) → ((h.client == n) ≡ true → is_write h.mode ≡ true → wants_write h.ino under ≡ true) → 2 ≤ shares n ino (holders ++ h ∷ []) → (2 ≤ shares n ino holders) ⊎ (wants_write ino under ≡ true)
+held_wants n under ino h holders fit two = by_test (is_holder n ino h) refl h.mode refl (let e = shares_end n ino holders h in omega (arith, e, two))
+  where
+    turned : same_ino h.ino ino ≡ true → is_ino ino h.ino ≡ true
+    turned is = grind (arith, nat_tests, is)
+
+    by_test : (b : Bool) → is_holder n ino h ≡ b → (m : Mode) → h.mode ≡ m → 2 ≤ max (shares n ino holders) (cond b (rank m) 0) → (2 ≤ shares n ino holders) ⊎ (wants_write ino under ≡ true)
+    by_test false is m mode two = inl (omega (arith, two))
+    by_test true is Read mode two = inl (omega (arith, two))
+    by_test true is Write mode two = let parts = both_true (h.client == n) (same_ino h.ino ino) is in inr (wants_same ino h.ino under (turned parts.1) (fit parts.0 (ap is_write mode)))
+
+raise_wants : (n : ℕ) (under : Under) (x : ℕ) (ino file : Ino) {share : ℕ} → ((x == n) ≡ true → wants_write file under ≡ true) → (2 ≤ share) ⊎ (((x == n) ≡ true) × (is_ino ino file ≡ true)) → (2 ≤ share) ⊎ (wants_write ino under ≡ true)
+raise_wants n under x ino file fit (inl two) = inl two
+raise_wants n under x ino file fit (inr is) = inr (wants_same ino file under is.1 (fit is.0))
 
 pub one_sharing : (n : ℕ) (c : Client) (up : List ToServer) (down : List ToClient) (s : Server) (a : Act) → MyFit n c s a → Requested n c up down s → Way (number_of s.current n) up c.unacked (last_flush s.entries n) → Sharing n c up down s → Sharing n c up down (act s a)
 one_sharing n c up down s (TellRecall x ino) fit r way was = tell_sharing n c up down s x (WantedBack ino) tt was
 one_sharing n c up down s (TellAck x number) fit r way was = tell_sharing n c up down s x (Acked number) tt was
-one_sharing n c up down s (TellRestart x) fit r way was = send_sharing n c up down s x (Restarted (stamp s)) (λ to. silent_may c.conn c.under up (number_of s.current n) (Restarted (stamp s)) (λ ino. shares n ino s.holders) tt) was
+one_sharing n c up down s (TellRestart x) fit r way was = send_sharing n c up down s x (Restarted (stamp s)) (λ to. silent_may c.conn c.files c.under up (number_of s.current n) (Restarted (stamp s)) (λ ino. shares n ino s.holders) tt) was
 one_sharing n c up down s (AnswerIt said) fit r way was = by_hand s.hand refl
   where
     by_number : (a : Asked) → s.hand ≡ Some a → (o : Option ℕ) → number_of s.current a.client ≡ o → Sharing n c up down (tell_at (record s { hand = None }) a.client (Answered a.tid said) o)
     by_number a is None number = was
     by_number a is (Some j) number = send_sharing n c up down (record s { hand = None }) a.client (message_of (record s { hand = None }) j (Answered a.tid said))
-        (λ at. subst (λ (k : Option ℕ). MayGive c.conn c.under up k (message_of (record s { hand = None }) j (Answered a.tid said)) (λ x. shares n x s.holders)) (sym (number_here n s a j number at)) (hand_answer n c up down s a said j is number at fit r way was).0) was
+        (λ at. subst (λ (k : Option ℕ). MayGive c.conn c.files c.under up k (message_of (record s { hand = None }) j (Answered a.tid said)) (λ x. shares n x s.holders)) (sym (number_here n s a j number at)) (hand_answer n c up down s a said j is number at fit r way was).0) was
 
     by_hand : (h : Option Asked) → s.hand ≡ h → Sharing n c up down (answer_hand s said h)
     by_hand None is = was
@@ -416,7 +479,7 @@ one_sharing n c up down s (GrantIt ino mode) fit r way was = by_hand s.hand refl
     by_number : (a : Asked) → s.hand ≡ Some a → (o : Option ℕ) → number_of s.current a.client ≡ o → Sharing n c up down (tell_at (record s { hand = None }) a.client (Granted a.tid ino mode) o)
     by_number a is None number = was
     by_number a is (Some j) number = send_sharing n c up down (record s { hand = None }) a.client (message_of (record s { hand = None }) j (Granted a.tid ino mode))
-        (λ at. subst (λ (k : Option ℕ). MayGive c.conn c.under up k (message_of (record s { hand = None }) j (Granted a.tid ino mode)) (λ x. shares n x s.holders)) (sym (number_here n s a j number at)) (hand_grant n c up down s a ino mode j is number at fit r way was).0) was
+        (λ at. subst (λ (k : Option ℕ). MayGive c.conn c.files c.under up k (message_of (record s { hand = None }) j (Granted a.tid ino mode)) (λ x. shares n x s.holders)) (sym (number_here n s a j number at)) (hand_grant n c up down s a ino mode j is number at fit r way was).0) was
 
     by_hand : (h : Option Asked) → s.hand ≡ h → Sharing n c up down (grant_hand s ino mode h)
     by_hand None is = was
@@ -438,12 +501,12 @@ one_sharing n c up down s (Prepare said) fit r way was = by_hand s.hand
 one_sharing n c up down s (Buffer e) fit r way was = buffer_sharing n c up down s e was
 one_sharing n c up down s (SendPurge id) fit r way was = store_sharing n c up down (record s { purging = s.purging ++ id ∷ [] }) (Purge id) was
 one_sharing n c up down s (SendDelete ino) fit r way was = store_sharing n c up down (record s { deleting = s.deleting ++ ino ∷ [] }) (Delete ino (context s.entries ino)) was
-one_sharing n c up down s (Hold h) fit r way was = raise_table c.conn c.files c.under up (number_of s.current n) (down ++ mail_of n s.mail) (λ ino. shares n ino s.holders) (λ ino. shares n ino (s.holders ++ h ∷ [])) (λ ino. let e = shares_end n ino s.holders h in omega (arith, e)) was
-one_sharing n c up down s (Raise x file upto) fit r way was = raise_table c.conn c.files c.under up (number_of s.current n) (down ++ mail_of n s.mail) (λ ino. shares n ino s.holders) (λ ino. shares n ino (map (raised x file upto) s.holders)) (λ ino. shares_raised n x ino file upto s.holders) was
-one_sharing n c up down s (MarkRecalled x file) fit r way was = raise_table c.conn c.files c.under up (number_of s.current n) (down ++ mail_of n s.mail) (λ ino. shares n ino s.holders) (λ ino. shares n ino (map (recalled x file) s.holders)) (λ ino. let e = shares_same n ino (recalled x file) s.holders (λ h. refl) in omega (arith, e)) was
-one_sharing n c up down s (Settled x file upto) fit r way was = raise_table c.conn c.files c.under up (number_of s.current n) (down ++ mail_of n s.mail) (λ ino. shares n ino s.holders) (λ ino. shares n ino (map (settled x file upto) s.holders)) (λ ino. let e = shares_same n ino (settled x file upto) s.holders (λ h. refl) in omega (arith, e)) was
-one_sharing n c up down s (LetGo x file) fit r way was = raise_table c.conn c.files c.under up (number_of s.current n) (down ++ mail_of n s.mail) (λ ino. shares n ino s.holders) (λ ino. shares n ino (filter (λ h. not (is_holder x file h)) s.holders)) (λ ino. let e = shares_others n ino (λ h. not (is_holder x file h)) s.holders (λ h is. other_holder n x file ino h fit is) in omega (arith, e)) was
-one_sharing n c up down s (LetAllGo x) fit r way was = raise_table c.conn c.files c.under up (number_of s.current n) (down ++ mail_of n s.mail) (λ ino. shares n ino s.holders) (λ ino. shares n ino (filter (λ h. not (h.client == x)) s.holders)) (λ ino. let e = shares_others n ino (λ h. not (h.client == x)) s.holders (λ h is. other_client n x ino h fit is) in omega (arith, e)) was
+one_sharing n c up down s (Hold h) fit r way was = raise_table c.conn c.files c.under up (number_of s.current n) (down ++ mail_of n s.mail) (λ ino. shares n ino s.holders) (λ ino. shares n ino (s.holders ++ h ∷ [])) (λ ino. let e = shares_end n ino s.holders h in omega (arith, e)) (λ ino. held_wants n c.under ino h s.holders fit.1) was
+one_sharing n c up down s (Raise x file upto) fit r way was = raise_table c.conn c.files c.under up (number_of s.current n) (down ++ mail_of n s.mail) (λ ino. shares n ino s.holders) (λ ino. shares n ino (map (raised x file upto) s.holders)) (λ ino. shares_raised n x ino file upto s.holders) (λ ino two. raise_wants n c.under x ino file fit.1 (raised_either n x ino file upto s.holders two)) was
+one_sharing n c up down s (MarkRecalled x file) fit r way was = same_table c.conn c.files c.under up (number_of s.current n) (down ++ mail_of n s.mail) (λ ino. shares n ino s.holders) (λ ino. shares n ino (map (recalled x file) s.holders)) (λ ino. shares_same n ino (recalled x file) s.holders (λ h. refl)) was
+one_sharing n c up down s (Settled x file upto) fit r way was = same_table c.conn c.files c.under up (number_of s.current n) (down ++ mail_of n s.mail) (λ ino. shares n ino s.holders) (λ ino. shares n ino (map (settled x file upto) s.holders)) (λ ino. shares_same n ino (settled x file upto) s.holders (λ h. refl)) was
+one_sharing n c up down s (LetGo x file) fit r way was = same_table c.conn c.files c.under up (number_of s.current n) (down ++ mail_of n s.mail) (λ ino. shares n ino s.holders) (λ ino. shares n ino (filter (λ h. not (is_holder x file h)) s.holders)) (λ ino. shares_others n ino (λ h. not (is_holder x file h)) s.holders (λ h is. other_holder n x file ino h fit is)) was
+one_sharing n c up down s (LetAllGo x) fit r way was = same_table c.conn c.files c.under up (number_of s.current n) (down ++ mail_of n s.mail) (λ ino. shares n ino s.holders) (λ ino. shares n ino (filter (λ h. not (h.client == x)) s.holders)) (λ ino. shares_others n ino (λ h. not (h.client == x)) s.holders (λ h is. other_client n x ino h fit is)) was
 one_sharing n c up down s a fit r way was = was
 
 -- the releases: what is entered, and what is sent

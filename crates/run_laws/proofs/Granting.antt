@@ -36,7 +36,7 @@ use Rattle.plain_journal.specs.Realms.{realm_at, shown}
 use Rattle.plain_journal.specs.Settled.{settled_size}
 use Rattle.plain_journal.specs.Entries.{change_in, state_after, applied, tree_at}
 use Rattle.plain_journal.specs.Table.{answer_kept, last_effect, outstanding, to_purge, dead, last_flush, barrier}
-use Rattle.held_files.specs.Files.{is_empty, is_write}
+use Rattle.held_files.specs.Files.{is_empty, is_ino, is_write}
 use Rattle.step_table.specs.ServerState.{Asked, Holder, Server, up_to, is_holder, is_writer, all_connected}
 use Rattle.step_table.specs.Acts.{Act, TellRecall, TellAck, TellRestart, AnswerIt, GrantIt, MakeEffect, Prepare, Wait, Defer, DeferFirst, TakeHeld, TakeDeferred, TakeOperation, SendDelete, Hold, Raise, MarkRecalled, Settled, LetGo, LetAllGo, act, acts, each, of_client, first_of, raised}
 use Rattle.step_table.specs.Capabilities.{in_conflict, against, is_recalled, recall, recalls, tenure, give_to, give, ask_cap, found_live, ask_found, clash, owing}
@@ -46,11 +46,12 @@ use Rattle.step_table.specs.Background.{roll_back, finish, finish_with, least, u
 use Rattle.step_table.specs.ClientState.{Client, Under, Idle, Open, AtStore, open_request}
 use Rattle.step_table.specs.ServerRows.{reported, restarts, roll_back_from}
 use Rattle.run_laws.specs.Requests.{IsIt, AllOf}
+use Rattle.run_laws.specs.Tenures.{asks_write, wants_write}
 use Rattle.run_laws.proofs.Acts.{Fit, fit_append}
 use Rattle.run_laws.proofs.Effects.{last_from}
 use Rattle.run_laws.proofs.Giving.{MyFit, FoundFit}
 use Rattle.run_laws.proofs.Once.{HandOf, first_client}
-use Rattle.run_laws.proofs.Shares.{rank, share, shares, shares_end}
+use Rattle.run_laws.proofs.Shares.{rank, share, shares, shares_end, both_true, two_most, writer_two, reader_one}
 use Rattle.run_laws.proofs.Sharing.{IsAsked}
 
 -- an answer that finds no live file
@@ -72,13 +73,13 @@ abbrev pub AllMild : List Act → Type 0
 AllMild [] = Unit {0}
 AllMild (a ∷ list) = IsMild a × AllMild list
 
-no_find_fits : (table : Ino → ℕ) (said : Answer) → NoFind said → FoundFit table said
-no_find_fits table (answer.FoundLive ino perm size write_held) is = absurd is
-no_find_fits table said is = tt
+no_find_fits : (under : Under) (table : Ino → ℕ) (said : Answer) → NoFind said → FoundFit under table said
+no_find_fits under table (answer.FoundLive ino perm size write_held) is = absurd is
+no_find_fits under table said is = tt
 
 mild_my : (n : ℕ) (c : Client) (s : Server) (a : Act) → IsMild a → MyFit n c s a
 mild_my n c s (GrantIt ino mode) is = absurd is
-mild_my n c s (AnswerIt said) is = λ b at mine_it. no_find_fits (λ ino. shares n ino s.holders) said is
+mild_my n c s (AnswerIt said) is = λ b at mine_it. no_find_fits c.under (λ ino. shares n ino s.holders) said is
 mild_my n c s (Hold h) is = absurd is
 mild_my n c s (Raise x ino upto) is = absurd is
 mild_my n c s (LetGo x ino) is = absurd is
@@ -131,14 +132,19 @@ writes : (m : Mode) (b : Bool) → (is_write m && b) ≡ true → rank m ≤ 2
 writes Read b is = omega arith
 writes Write b is = omega arith
 
+write_rank : (m : Mode) → is_write m ≡ true → rank m ≡ 2
+write_rank Read is = absurd (true≢false (sym is))
+write_rank Write is = refl
+
 -- after these acts: what was in hand is, and the client has the file in this mode
 pub record Gave (n : ℕ) (c : Client) (s : Server) (x : ℕ) (ino : Ino) (mode : Mode) (list : List Act) : Type 0 where
   pub fit : Fit (MyFit n c) s list
   pub hand : (acts s list).hand ≡ s.hand
   pub share : rank mode ≤ shares x ino (acts s list).holders
+  pub most : shares x ino (acts s list).holders ≤ max (shares x ino s.holders) (rank mode)
 
-give_my : (n : ℕ) (c : Client) (s : Server) (x : ℕ) (ino : Ino) (mode : Mode) → all_connected s ≡ true → Gave n c s x ino mode (give s x ino mode)
-give_my n c s x ino mode connected = by_holder (find (is_holder x ino) s.holders) refl
+give_my : (n : ℕ) (c : Client) (s : Server) (x : ℕ) (ino : Ino) (mode : Mode) → all_connected s ≡ true → ((x == n) ≡ true → is_write mode ≡ true → wants_write ino c.under ≡ true) → Gave n c s x ino mode (give s x ino mode)
+give_my n c s x ino mode connected wants = by_holder (find (is_holder x ino) s.holders) refl
   where
     both_are : (a b : Bool) → a ≡ true → b ≡ true → (a && b) ≡ true
     both_are a b one two = rw (one, two) refl
@@ -147,23 +153,29 @@ give_my n c s x ino mode connected = by_holder (find (is_holder x ino) s.holders
     itself = both_are (x == x) (same_ino ino ino) (grind (arith, nat_tests)) (grind (arith, nat_tests))
 
     by_raise : (h : Holder) → find (is_holder x ino) s.holders ≡ Some h → (b : Bool) → (is_write mode && not (is_write h.mode)) ≡ b → Gave n c s x ino mode (cond b (Raise x ino (record { 0 = applied s.entries }) ∷ []) [])
-    by_raise h is true raise = record { fit = (inl connected, tt); hand = refl; share = let two = find_raised x ino (record { 0 = applied s.entries }) h s.holders is in let most = writes mode (not (is_write h.mode)) raise in omega (arith, two, most) }
-    by_raise h is false raise = record { fit = tt; hand = refl; share = let one = find_share x ino h s.holders is in let less = modes_less mode h.mode raise in omega (arith, one, less) }
+    by_raise h is true raise = record {
+      fit = ((inl connected, λ at. wants at (both_true (is_write mode) (not (is_write h.mode)) raise).0), tt);
+      hand = refl;
+      share = let two = find_raised x ino (record { 0 = applied s.entries }) h s.holders is in let most = writes mode (not (is_write h.mode)) raise in omega (arith, two, most);
+      most = let few = two_most x ino (map (raised x ino (record { 0 = applied s.entries })) s.holders) in let two = write_rank mode (both_true (is_write mode) (not (is_write h.mode)) raise).0 in omega (arith, few, two);
+    }
+    by_raise h is false raise = record { fit = tt; hand = refl; share = let one = find_share x ino h s.holders is in let less = modes_less mode h.mode raise in omega (arith, one, less); most = omega arith }
 
     by_holder : (o : Option Holder) → find (is_holder x ino) s.holders ≡ o → Gave n c s x ino mode (give_to s x ino mode o)
     by_holder None is = record {
-      fit = (inl connected, tt);
+      fit = ((inl connected, wants), tt);
       hand = refl;
       share = let e = shares_end x ino s.holders (tenure s x ino mode) in let one : share x ino (tenure s x ino mode) ≡ rank mode = ap (λ (b : Bool). cond b (rank mode) 0) itself in omega (arith, e, one);
+      most = let e = shares_end x ino s.holders (tenure s x ino mode) in let one : share x ino (tenure s x ino mode) ≡ rank mode = ap (λ (b : Bool). cond b (rank mode) 0) itself in omega (arith, e, one);
     }
     by_holder (Some h) is = by_raise h is (is_write mode && not (is_write h.mode)) refl
 
-cap_my : (n : ℕ) (c : Client) (s : Server) (x : ℕ) (ino : Ino) (mode : Mode) (granted : Act) → all_connected s ≡ true → ((t : Server) → t.hand ≡ s.hand → rank mode ≤ shares x ino t.holders → MyFit n c t granted) → Fit (MyFit n c) s (ask_cap s x ino mode granted)
-cap_my n c s x ino mode granted connected fits = by_test (in_conflict s x ino mode)
+cap_my : (n : ℕ) (c : Client) (s : Server) (x : ℕ) (ino : Ino) (mode : Mode) (granted : Act) → all_connected s ≡ true → ((x == n) ≡ true → is_write mode ≡ true → wants_write ino c.under ≡ true) → ((t : Server) → t.hand ≡ s.hand → rank mode ≤ shares x ino t.holders → shares x ino t.holders ≤ max (shares x ino s.holders) (rank mode) → MyFit n c t granted) → Fit (MyFit n c) s (ask_cap s x ino mode granted)
+cap_my n c s x ino mode granted connected wants fits = by_test (in_conflict s x ino mode)
   where
     by_test : (b : Bool) → Fit (MyFit n c) s (cond b (recalls s ino (against s x ino mode) ++ Wait ∷ []) (give s x ino mode ++ granted ∷ []))
     by_test true = mild_fit n c (recalls s ino (against s x ino mode) ++ Wait ∷ []) s (mild_append (recalls s ino (against s x ino mode)) (Wait ∷ []) (mild_recalls s ino (against s x ino mode)) (tt, tt))
-    by_test false = let gave = give_my n c s x ino mode connected in fit_append (MyFit n c) s (give s x ino mode) (granted ∷ []) gave.fit (fits (acts s (give s x ino mode)) gave.hand gave.share, tt)
+    by_test false = let gave = give_my n c s x ino mode connected wants in fit_append (MyFit n c) s (give s x ino mode) (granted ∷ []) gave.fit (fits (acts s (give s x ino mode)) gave.hand gave.share gave.most, tt)
 
 -- the share is the client's own
 own_share : (n x : ℕ) (ino : Ino) (most : ℕ) (holders : List Holder) (b : Asked) → b.client ≡ x → of_client n b ≡ true → most ≤ shares x ino holders → most ≤ shares n ino holders
@@ -172,12 +184,39 @@ own_share n x ino most holders b of mine_b less = subst (λ (y : ℕ). most ≤ 
     same : (b.client == n) ≡ true → x ≡ n
     same at = grind (arith, nat_tests, of, at)
 
-found_my : (n : ℕ) (c : Client) (s : Server) (x : ℕ) (ino : Ino) → all_connected s ≡ true → HandOf s x → Fit (MyFit n c) s (ask_found s x ino)
-found_my n c s x ino connected of = by_test (list_any (is_writer x ino) s.holders)
+own_most : (n x : ℕ) (ino : Ino) (most : ℕ) (holders : List Holder) (b : Asked) → b.client ≡ x → of_client n b ≡ true → shares x ino holders ≤ most → shares n ino holders ≤ most
+own_most n x ino most holders b of mine_b less = subst (λ (y : ℕ). shares y ino holders ≤ most) (same mine_b) less
   where
-    by_test : (b : Bool) → Fit (MyFit n c) s (cond b (AnswerIt (found_live s ino true) ∷ []) (ask_cap s x ino Read (AnswerIt (found_live s ino false))))
-    by_test true = ((λ b at mine_b not_writer. absurd (true≢false not_writer)), tt)
-    by_test false = cap_my n c s x ino Read (AnswerIt (found_live s ino false)) connected (λ t hand less b at mine_b not_writer. own_share n x ino 1 t.holders b (of b (sym hand ∙ at)) mine_b less)
+    same : (b.client == n) ≡ true → x ≡ n
+    same at = grind (arith, nat_tests, of, at)
+
+-- what is open isn't for this file for Write
+abbrev NotAsked : ℕ → Client → ℕ → Type 0
+NotAsked n c x = (x == n) ≡ true → (ino : Ino) → wants_write ino c.under ≡ false
+
+not_asked : (under : Under) (tid : ℕ) (asked : Request) (ino : Ino) → IsIt (open_request under) tid asked → asks_write ino asked ≡ false → wants_write ino under ≡ false
+not_asked Idle tid asked ino it none = absurd it
+not_asked (AtStore number entry file head) tid asked ino it none = absurd it
+not_asked (Open number open_tid text wanted gone) tid asked ino it none = sym (ap (asks_write ino) it.1) ∙ none
+
+asked_write : (under : Under) (ino : Ino) (mode : Mode) → IsAsked under ino mode → is_write mode ≡ true → wants_write ino under ≡ true
+asked_write Idle ino mode asked is = absurd asked
+asked_write (AtStore number entry file head) ino mode asked is = absurd asked
+asked_write (Open number open_tid text wanted gone) ino mode asked is = ap (asks_write ino) asked ∙ both_are (grind (arith, nat_tests)) is
+  where
+    both_are : is_ino ino ino ≡ true → is_write mode ≡ true → (is_ino ino ino && is_write mode) ≡ true
+    both_are one two = rw (one, two) refl
+
+found_my : (n : ℕ) (c : Client) (s : Server) (x : ℕ) (ino : Ino) → all_connected s ≡ true → HandOf s x → NotAsked n c x → Fit (MyFit n c) s (ask_found s x ino)
+found_my n c s x ino connected of asks_no = by_test (list_any (is_writer x ino) s.holders) refl
+  where
+    by_test : (b : Bool) → list_any (is_writer x ino) s.holders ≡ b → Fit (MyFit n c) s (cond b (AnswerIt (found_live s ino true) ∷ []) (ask_cap s x ino Read (AnswerIt (found_live s ino false))))
+    by_test true any = ((λ b at mine_b. (own_share n x ino 2 s.holders b (of b at) mine_b (writer_two x ino s.holders any), asks_no (subst (λ (y : ℕ). (y == n) ≡ true) (of b at) mine_b) ino)), tt)
+    by_test false any = cap_my n c s x ino Read (AnswerIt (found_live s ino false)) connected (λ at is. absurd (true≢false (sym is)))
+        (λ t hand less most b at mine_b. one_only (own_share n x ino 1 t.holders b (of b (sym hand ∙ at)) mine_b less) (own_most n x ino 1 t.holders b (of b (sym hand ∙ at)) mine_b (let few = reader_one x ino s.holders any in omega (arith, few, most))))
+      where
+        one_only : {k : ℕ} → 1 ≤ k → k ≤ 1 → k ≡ 1
+        one_only some few = omega (arith, some, few)
 
 -- what the journal answers
 dir_stat : (entries : List Entry) (ino : Ino) → kind_in (state_after entries).inodes ino ≡ Dir → NoFind (live_stat entries (state_after entries) ino)
@@ -272,22 +311,22 @@ owed_none said (Some x) none = tt
 one_mild : (n : ℕ) (c : Client) (s : Server) (said : Answer) → NoFind said → Fit (MyFit n c) s (AnswerIt said ∷ [])
 one_mild n c s said none = mild_fit n c (AnswerIt said ∷ []) s (none, tt)
 
-stat_my : (n : ℕ) (c : Client) (s : Server) (a : Asked) (o : Result Found Refusal) → all_connected s ≡ true → HandOf s a.client → Fit (MyFit n c) s (look_at s a (answered o (stat_found s.entries)) o)
-stat_my n c s a (Ok (InLive ino)) connected of = kind_my n c s (kind_in (state_after s.entries).inodes ino) _ (ask_found s a.client ino) (λ is. one_mild n c s _ (dir_stat s.entries ino is)) (found_my n c s a.client ino connected of)
-stat_my n c s a (Ok (SnapsOf dir)) connected of = one_mild n c s _ (stat_none 0 (state_after s.entries) dir)
-stat_my n c s a (Ok (InTree id ino)) connected of =
+stat_my : (n : ℕ) (c : Client) (s : Server) (a : Asked) (o : Result Found Refusal) → all_connected s ≡ true → HandOf s a.client → NotAsked n c a.client → Fit (MyFit n c) s (look_at s a (answered o (stat_found s.entries)) o)
+stat_my n c s a (Ok (InLive ino)) connected of asks_no = kind_my n c s (kind_in (state_after s.entries).inodes ino) _ (ask_found s a.client ino) (λ is. one_mild n c s _ (dir_stat s.entries ino is)) (found_my n c s a.client ino connected of asks_no)
+stat_my n c s a (Ok (SnapsOf dir)) connected of asks_no = one_mild n c s _ (stat_none 0 (state_after s.entries) dir)
+stat_my n c s a (Ok (InTree id ino)) connected of asks_no =
     let none = stat_none (settled_size s.entries ino id) (tree_at s.entries id) ino in
     kind_my n c s (kind_in (tree_at s.entries id).inodes ino) _ _ (λ is. one_mild n c s _ none) (one_mild n c s _ (owed_none (stat_in (settled_size s.entries ino id) (tree_at s.entries id) ino) (owing s ino id) none))
-stat_my n c s a (Err refusal) connected of = one_mild n c s (answered (Err refusal) (stat_found s.entries)) tt
+stat_my n c s a (Err refusal) connected of asks_no = one_mild n c s (answered (Err refusal) (stat_found s.entries)) tt
 
-cat_my : (n : ℕ) (c : Client) (s : Server) (a : Asked) (o : Result Found Refusal) → all_connected s ≡ true → HandOf s a.client → Fit (MyFit n c) s (look_at s a (answered o (cat_found s.entries)) o)
-cat_my n c s a (Ok (InLive ino)) connected of = kind_my n c s (kind_in (state_after s.entries).inodes ino) _ (ask_found s a.client ino) (λ is. one_mild n c s _ (dir_cat (state_after s.entries) ino (found_answer s.entries (state_after s.entries) ino) is)) (found_my n c s a.client ino connected of)
-cat_my n c s a (Ok (SnapsOf dir)) connected of = one_mild n c s (answered (Ok (SnapsOf dir)) (cat_found s.entries)) tt
-cat_my n c s a (Ok (InTree id ino)) connected of =
+cat_my : (n : ℕ) (c : Client) (s : Server) (a : Asked) (o : Result Found Refusal) → all_connected s ≡ true → HandOf s a.client → NotAsked n c a.client → Fit (MyFit n c) s (look_at s a (answered o (cat_found s.entries)) o)
+cat_my n c s a (Ok (InLive ino)) connected of asks_no = kind_my n c s (kind_in (state_after s.entries).inodes ino) _ (ask_found s a.client ino) (λ is. one_mild n c s _ (dir_cat (state_after s.entries) ino (found_answer s.entries (state_after s.entries) ino) is)) (found_my n c s a.client ino connected of asks_no)
+cat_my n c s a (Ok (SnapsOf dir)) connected of asks_no = one_mild n c s (answered (Ok (SnapsOf dir)) (cat_found s.entries)) tt
+cat_my n c s a (Ok (InTree id ino)) connected of asks_no =
     let said = answer.FoundSnap ino id (settled_size s.entries ino id) in
     let none = file_none (tree_at s.entries id) ino said tt in
     kind_my n c s (kind_in (tree_at s.entries id).inodes ino) _ _ (λ is. one_mild n c s _ none) (one_mild n c s _ (owed_none (file_in (tree_at s.entries id) ino said) (owing s ino id) none))
-cat_my n c s a (Err refusal) connected of = one_mild n c s (answered (Err refusal) (cat_found s.entries)) tt
+cat_my n c s a (Err refusal) connected of asks_no = one_mild n c s (answered (Err refusal) (cat_found s.entries)) tt
 
 mild_barrier : (s : Server) (number : ℕ) → AllMild (at_barrier s number)
 mild_barrier s number = mild_if (nat_le number (barrier s.entries)) _ (Wait ∷ []) (tt, tt) (tt, tt)
@@ -306,12 +345,12 @@ mild_decided s alone (Some (Err refusal)) = (tt, tt)
 mild_decided s alone (Some (Ok made)) = mild_make s alone made
 
 new_my : (n : ℕ) (c : Client) (s : Server) (alone : Bool) (a : Asked) (asked : Request) → all_connected s ≡ true → HandOf s a.client → (of_client n a ≡ true → IsIt (open_request c.under) a.tid asked) → Fit (MyFit n c) s (treat_new alone s a asked)
-new_my n c s alone a (request.Cap ino mode) connected of it = cap_my n c s a.client ino mode (GrantIt ino mode) connected (λ t hand less b at mine_b. (
+new_my n c s alone a (request.Cap ino mode) connected of it = cap_my n c s a.client ino mode (GrantIt ino mode) connected (λ at is. asked_write c.under ino mode (asked_is c.under a.tid ino mode (it at)) is) (λ t hand less most b at mine_b. (
   asked_is c.under a.tid ino mode (it (subst (λ (x : ℕ). (x == n) ≡ true) (of b (sym hand ∙ at)) mine_b)),
   own_share n a.client ino (rank mode) t.holders b (of b (sym hand ∙ at)) mine_b less,
 ))
-new_my n c s alone a (request.Cat path) connected of it = cat_my n c s a (found s.entries path) connected of
-new_my n c s alone a (request.Stat path) connected of it = stat_my n c s a (found s.entries path) connected of
+new_my n c s alone a (request.Cat path) connected of it = cat_my n c s a (found s.entries path) connected of (λ at ino. not_asked c.under a.tid (request.Cat path) ino (it at) refl)
+new_my n c s alone a (request.Stat path) connected of it = stat_my n c s a (found s.entries path) connected of (λ at ino. not_asked c.under a.tid (request.Stat path) ino (it at) refl)
 new_my n c s alone a (request.List path) connected of it = one_mild n c s _ (listed_none s.entries (found s.entries path))
 new_my n c s alone a (request.Realm path) connected of it = one_mild n c s _ (realm_none s.entries (live_only (state_after s.entries) (place_of path)))
 new_my n c s alone a (request.Clones path index) connected of it = one_mild n c s _ (clones_none s.entries index (live_only (state_after s.entries) (place_of path)))
@@ -440,7 +479,7 @@ AllOther n (a ∷ list) = IsOther n a × AllOther n list
 other_my : (n : ℕ) (c : Client) (s : Server) (a : Act) → IsOther n a → MyFit n c s a
 other_my n c s (GrantIt ino mode) is = absurd is
 other_my n c s (AnswerIt said) is = absurd is
-other_my n c s (Hold h) is = inr is
+other_my n c s (Hold h) is = (inr is, λ at wants. absurd (true≢false (sym at ∙ is)))
 other_my n c s (Raise x ino upto) is = absurd is
 other_my n c s (LetGo x ino) is = is
 other_my n c s (LetAllGo x) is = is

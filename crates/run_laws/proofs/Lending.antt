@@ -38,12 +38,12 @@ use Rattle.plain_types.specs.declared.message.ToClient.TheVariants.{Reply, Grant
 use Rattle.step_table.specs.Messages.{to_client_fits, from_store_fits, context_by}
 use Rattle.step_table.specs.ClientTakes.{marked, renewed, updated, acked, goes_on, granted, asks_for, asks_anew, take_grant, wants_bytes, with_found, found, take_answer, takes_answer, take_reply, having_heard, take_own, on_told, is_key, key_of, take_read, take_stored, on_stored}
 use Rattle.step_table.specs.World.{to_server as for_server}
-use Rattle.run_laws.specs.Tenures.{Distinct}
+use Rattle.run_laws.specs.Tenures.{Distinct, gone_in, is_gone, asks_write, wants_write}
 use Rattle.run_laws.proofs.Files.{has_with, has_hold, has_settled, distinct_with, distinct_hold, distinct_settled, has_reader, not_held, file_same}
 use Rattle.run_laws.specs.Links.{Number, mark}
 use Rattle.run_laws.proofs.Clients.{updated_same}
 use Rattle.run_laws.proofs.Shares.{rank, rank_in, has, found_in, gives}
-use Rattle.run_laws.proofs.Sharing.{CapFree, Frees, gone_in, is_gone}
+use Rattle.run_laws.proofs.Sharing.{CapFree, Frees}
 use Rattle.run_laws.proofs.Told.{IsAnswer}
 
 -- no request, no Connect, and nothing lets a file go
@@ -68,11 +68,11 @@ abbrev pub NotOpen : Under → Type 0
 NotOpen (Open number tid text asked gone) = ⊥
 NotOpen under = Unit {0}
 
--- a row after which no request is open; it holds what it held, and what this gives it
+-- a row after which no request is open; it holds what it held and what this gives it, no more and no less
 pub record Ends (c : Client) (gain : Ino → ℕ) (r : Row Client) : Type 0 where
   pub conn : r.state.conn ≡ c.conn
   pub under : NotOpen r.state.under
-  pub modes : (x : Ino) → has x r.state.files ≤ max (has x c.files) (gain x)
+  pub modes : (x : Ino) → has x r.state.files ≡ max (has x c.files) (gain x)
   pub once : Distinct c.files → Distinct r.state.files
   pub none : for_server r.sent ≡ []
 
@@ -338,59 +338,81 @@ stored_closes c said = closes_if c (from_store_fits said) (take_stored c said) (
 abbrev pub gain_of : Client → ToClient → Ino → ℕ
 gain_of c m x = gives c.conn (gone_in c.under) x m
 
+-- what is asked for Write is asked for still
+abbrev pub WantsStill : Client → Row Client → Type 0
+WantsStill c r = (x : Ino) → wants_write x c.under ≡ true → wants_write x r.state.under ≡ true
+
 abbrev pub Taken : Client → (Ino → ℕ) → Row Client → Type 0
-Taken c gain r = Quiet c r ⊎ (Ends c gain r ⊎ AsksNow c r)
+Taken c gain r = Quiet c r ⊎ (Ends c gain r ⊎ (AsksNow c r × WantsStill c r))
 
 taken_if : (c : Client) (gain : Ino → ℕ) (b : Bool) (x y : Row Client) → (b ≡ true → Taken c gain x) → Taken c gain y → Taken c gain (cond b x y)
 taken_if c gain true x y here other = here refl
 taken_if c gain false x y here other = other
 
 -- a file that is held newly
-hold_most : (x ino : Ino) (mode : Mode) (before gain : ℕ) → (is_ino x ino ≡ true → rank mode ≤ gain) → cond (is_ino x ino) (rank mode) before ≤ max before gain
-hold_most x ino mode before gain less = by_test (is_ino x ino) less
+hold_most : (x ino : Ino) (mode : Mode) (files : HeldFiles) (gain : ℕ) → has ino files ≤ rank mode → gain ≡ cond (is_ino x ino) (rank mode) 0 → cond (is_ino x ino) (rank mode) (has x files) ≡ max (has x files) gain
+hold_most x ino mode files gain low exact = by_test (is_ino x ino) refl exact
   where
-    by_test : (b : Bool) → (b ≡ true → rank mode ≤ gain) → cond b (rank mode) before ≤ max before gain
-    by_test true less = let one = less refl in omega (arith, one)
-    by_test false less = omega arith
+    by_test : (b : Bool) → is_ino x ino ≡ b → gain ≡ cond b (rank mode) 0 → cond b (rank mode) (has x files) ≡ max (has x files) gain
+    by_test true is exact = let same = ap rank_in (file_same x ino files is) in let few = low in omega (arith, exact, same, few)
+    by_test false is exact = omega (arith, exact)
 
-goes_on_ends : (c : Client) (gain : Ino → ℕ) (number : ℕ) (stamp : Stamp) (ino : Ino) (mode : Mode) (size : ℕ) (file : FileTrace) (o : Option Edit) → ((x : Ino) → is_ino x ino ≡ true → rank mode ≤ gain x) → Ends c gain (goes_on (granted c ino mode size stamp.snap file) number ino o)
-goes_on_ends c gain number stamp ino mode size file (Some e) less =
+goes_on_ends : (c : Client) (gain : Ino → ℕ) (number : ℕ) (stamp : Stamp) (ino : Ino) (mode : Mode) (size : ℕ) (file : FileTrace) (o : Option Edit) → has ino c.files ≤ rank mode → ((x : Ino) → gain x ≡ cond (is_ino x ino) (rank mode) 0) → Ends c gain (goes_on (granted c ino mode size stamp.snap file) number ino o)
+goes_on_ends c gain number stamp ino mode size file (Some e) low exact =
     let change = with_piece (e.piece (context_in (granted c ino mode size stamp.snap file).contexts ino)) in
     let files = hold ino mode size stamp.snap c.files in
     record {
       conn = refl;
       under = tt;
-      modes = λ x. let same = has_with x ino change (λ file. refl) files in let held = has_hold x ino mode size stamp.snap c.files in let most = hold_most x ino mode (has x c.files) (gain x) (less x) in omega (arith, same, held, most);
+      modes = λ x. let same = has_with x ino change (λ file. refl) files in let held = has_hold x ino mode size stamp.snap c.files in let most = hold_most x ino mode c.files (gain x) low (exact x) in omega (arith, same, held, most);
       once = λ once. distinct_with ino change files (distinct_hold ino mode size stamp.snap c.files once);
       none = refl;
     }
-goes_on_ends c gain number stamp ino mode size file None less = record {
+goes_on_ends c gain number stamp ino mode size file None low exact = record {
   conn = refl;
   under = tt;
-  modes = λ x. let held = has_hold x ino mode size stamp.snap c.files in let most = hold_most x ino mode (has x c.files) (gain x) (less x) in omega (arith, held, most);
+  modes = λ x. let held = has_hold x ino mode size stamp.snap c.files in let most = hold_most x ino mode c.files (gain x) low (exact x) in omega (arith, held, most);
   once = λ once. distinct_hold ino mode size stamp.snap c.files once;
   none = refl;
 }
 
-grant_taken : (c : Client) (gain : Ino → ℕ) (tid : ℕ) (stamp : Stamp) (ino : Ino) (mode : Mode) (size : ℕ) (file : FileTrace) (under : Under) → ((x : Ino) → is_ino x ino ≡ true → rank mode ≤ gain x) → Taken c gain (take_grant c tid stamp ino mode size file under)
-grant_taken c gain tid stamp ino mode size file Idle less = inl (same_row c)
-grant_taken c gain tid stamp ino mode size file (AtStore number entry other head) less = inl (same_row c)
-grant_taken c gain tid stamp ino mode size file (Open number open_tid text asked let_go) less =
+-- who doesn't write a file holds it in no mode above one that is given
+low_rank : (mode : Mode) (held : ℕ) → held ≤ 1 → held ≤ rank mode
+low_rank Read held few = few
+low_rank Write held few = omega (arith, few)
+
+third_true : (a b d : Bool) → (a && b && d) ≡ true → d ≡ true
+third_true true true d is = is
+third_true true false d is = absurd (true≢false (sym is))
+third_true false b d is = absurd (true≢false (sym is))
+
+grant_taken : (c : Client) (gain : Ino → ℕ) (tid : ℕ) (stamp : Stamp) (ino : Ino) (mode : Mode) (size : ℕ) (file : FileTrace) (under : Under) → ((x : Ino) → gain x ≡ cond (is_ino x ino) (rank mode) 0) → Taken c gain (take_grant c tid stamp ino mode size file under)
+grant_taken c gain tid stamp ino mode size file Idle exact = inl (same_row c)
+grant_taken c gain tid stamp ino mode size file (AtStore number entry other head) exact = inl (same_row c)
+grant_taken c gain tid stamp ino mode size file (Open number open_tid text asked let_go) exact =
     taken_if c gain (open_tid == tid && asks_for asked ino mode && not (is_writer ino c.files)) _ (stays c)
-    (λ is. inr (inl (goes_on_ends c gain number stamp ino mode size file (edit_of text) less))) (inl (same_row c))
+    (λ is. inr (inl (goes_on_ends c gain number stamp ino mode size file (edit_of text) (low_rank mode (has ino c.files) (has_reader ino c.files (not_true (is_writer ino c.files) (third_true (open_tid == tid) (asks_for asked ino mode) (not (is_writer ino c.files)) is)))) exact))) (inl (same_row c))
 
 ends_if : (c : Client) (gain : Ino → ℕ) (b : Bool) (x y : Row Client) → Ends c gain x → Ends c gain y → Ends c gain (cond b x y)
 ends_if c gain true x y here other = here
 ends_if c gain false x y here other = other
 
-found_ends : (c : Client) (gain : Ino → ℕ) (number : ℕ) (asked : Request) (entry : ℕ) (ino : Ino) (perm size : ℕ) (settled : SnapId) (write_held : Bool) → ((x : Ino) → is_ino x ino ≡ true → write_held ≡ false → 1 ≤ gain x) → Ends c gain (with_found (found c ino size settled write_held) number asked entry ino perm)
-found_ends c gain number asked entry ino perm size settled write_held less = ends_if c gain (wants_bytes asked) _ _
-    (record { conn = refl; under = tt; modes = λ x. now write_held (less x); once = λ once. still write_held once; none = refl })
-    (record { conn = refl; under = tt; modes = λ x. now write_held (less x); once = λ once. still write_held once; none = refl })
+found_ends : (c : Client) (gain : Ino → ℕ) (number : ℕ) (asked : Request) (entry : ℕ) (ino : Ino) (perm size : ℕ) (settled : SnapId) (write_held : Bool) → (write_held ≡ false → has ino c.files ≤ 1) → ((x : Ino) → gain x ≡ cond (is_ino x ino && not write_held) 1 0) → Ends c gain (with_found (found c ino size settled write_held) number asked entry ino perm)
+found_ends c gain number asked entry ino perm size settled write_held low exact = ends_if c gain (wants_bytes asked) _ _
+    (record { conn = refl; under = tt; modes = λ x. now write_held low (exact x); once = λ once. still write_held once; none = refl })
+    (record { conn = refl; under = tt; modes = λ x. now write_held low (exact x); once = λ once. still write_held once; none = refl })
   where
-    now : {x : Ino} (b : Bool) → (is_ino x ino ≡ true → b ≡ false → 1 ≤ gain x) → has x (cond b c.files (hold ino Read size settled c.files)) ≤ max (has x c.files) (gain x)
-    now true less = omega arith
-    now {x} false less = let held = has_hold x ino Read size settled c.files in let most = hold_most x ino Read (has x c.files) (gain x) (λ is. less is refl) in omega (arith, held, most)
+    as_read : (a : Bool) → ◌≡◌ {A = ℕ} (cond (a && not false) 1 0) (cond a 1 0)
+    as_read true = refl
+    as_read false = refl
+
+    as_none : (a : Bool) → ◌≡◌ {A = ℕ} (cond (a && not true) 1 0) 0
+    as_none true = refl
+    as_none false = refl
+
+    now : {x : Ino} (b : Bool) → (b ≡ false → has ino c.files ≤ 1) → gain x ≡ cond (is_ino x ino && not b) 1 0 → has x (cond b c.files (hold ino Read size settled c.files)) ≡ max (has x c.files) (gain x)
+    now {x} true low exact = let none = as_none (is_ino x ino) in omega (arith, exact, none)
+    now {x} false low exact = let held = has_hold x ino Read size settled c.files in let most = hold_most x ino Read c.files (gain x) (low refl) (exact ∙ as_read (is_ino x ino)) in omega (arith, held, most)
 
     still : (b : Bool) → Distinct c.files → Distinct (cond b c.files (hold ino Read size settled c.files))
     still true once = once
@@ -398,18 +420,22 @@ found_ends c gain number asked entry ino perm size settled write_held less = end
 
 -- what an answer that finds a file gives
 abbrev FindGain : (Ino → ℕ) → List Ino → Answer → Type 0
-FindGain gain gone (answer.FoundLive ino perm size write_held) = (x : Ino) → is_ino x ino ≡ true → write_held ≡ false → is_gone ino gone ≡ false → 1 ≤ gain x
-FindGain gain gone said = Unit {0}
+FindGain gain gone (answer.FoundLive ino perm size write_held) = is_gone ino gone ≡ false → (x : Ino) → gain x ≡ cond (is_ino x ino && not write_held) 1 0
+FindGain gain gone said = (x : Ino) → gain x ≡ 0
 
-answer_taken : (c : Client) (gain : Ino → ℕ) (number : ℕ) (text : Line) (asked : Request) (let_go : List Ino) (stamp : Stamp) (said : Answer) → let_go ≡ gone_in c.under → CapFree c.files [] asked → FindGain gain let_go said → Taken c gain (take_answer c number text asked let_go stamp said)
-answer_taken c gain number text asked let_go stamp (answer.FoundLive ino perm size write_held) same free less = by_test (list_any (is_ino ino) let_go) refl
+answer_taken : (c : Client) (gain : Ino → ℕ) (number : ℕ) (text : Line) (asked : Request) (let_go : List Ino) (stamp : Stamp) (said : Answer) → let_go ≡ gone_in c.under → ((x : Ino) → wants_write x c.under ≡ true → asks_write x asked ≡ true) → takes_answer c said ≡ true → CapFree c.files [] asked → FindGain gain let_go said → Taken c gain (take_answer c number text asked let_go stamp said)
+answer_taken c gain number text asked let_go stamp (answer.FoundLive ino perm size write_held) same wants takes free exact = by_test (list_any (is_ino ino) let_go) refl
   where
     by_test : (b : Bool) → list_any (is_ino ino) let_go ≡ b → Taken c gain (cond b (asks_anew c number text asked ino) (with_found (found c ino size stamp.snap write_held) number asked stamp.entry ino perm))
-    by_test true is = inr (inr (record { number = number; tid = c.tid + 1; text = text; asked = asked; before = Some ino; conn = refl; under = refl; files = refl; free = free; gone = subst (λ (l : List Ino). is_gone ino l ≡ true) same is; sent = refl }))
-    by_test false is = inr (inl (found_ends c gain number asked stamp.entry ino perm size stamp.snap write_held (λ x at not_writer. less x at not_writer is)))
-answer_taken c gain number text asked let_go stamp (answer.FoundSnap ino snap size) same free less = inr (inl (record { conn = refl; under = tt; modes = λ x. omega arith; once = λ once. once; none = refl }))
-answer_taken c gain number text asked let_go stamp (answer.FoundObject ino index) same free less = inr (inl (record { conn = refl; under = tt; modes = λ x. omega arith; once = λ once. once; none = refl }))
-answer_taken c gain number text asked let_go stamp said same free less = inr (inl (record { conn = refl; under = tt; modes = λ x. omega arith; once = λ once. once; none = refl }))
+    by_test true is = inr (inr (record { number = number; tid = c.tid + 1; text = text; asked = asked; before = Some ino; conn = refl; under = refl; files = refl; free = free; gone = subst (λ (l : List Ino). is_gone ino l ≡ true) same is; sent = refl }, wants))
+    by_test false is = inr (inl (found_ends c gain number asked stamp.entry ino perm size stamp.snap write_held (λ not_writer. has_reader ino c.files (not_true (is_writer ino c.files) (by_other write_held (not (is_writer ino c.files)) takes not_writer))) (exact is)))
+      where
+        by_other : (a b : Bool) → (a || b) ≡ true → a ≡ false → b ≡ true
+        by_other true b is none = absurd (true≢false none)
+        by_other false b is none = is
+answer_taken c gain number text asked let_go stamp (answer.FoundSnap ino snap size) same wants takes free exact = inr (inl (record { conn = refl; under = tt; modes = λ x. let none = exact x in omega (arith, none); once = λ once. once; none = refl }))
+answer_taken c gain number text asked let_go stamp (answer.FoundObject ino index) same wants takes free exact = inr (inl (record { conn = refl; under = tt; modes = λ x. let none = exact x in omega (arith, none); once = λ once. once; none = refl }))
+answer_taken c gain number text asked let_go stamp said same wants takes free exact = inr (inl (record { conn = refl; under = tt; modes = λ x. let none = exact x in omega (arith, none); once = λ once. once; none = refl }))
 
 -- what is asked for isn't held, sent again too
 pub free_again : (files : HeldFiles) (gone : List Ino) (asked : Request) → CapFree files gone asked → CapFree files [] asked
@@ -417,11 +443,11 @@ free_again files gone (request.Cap file Read) free = (free.0, refl)
 free_again files gone (request.Cap file Write) free = free
 free_again files gone asked free = tt
 
-reply_taken : (c : Client) (gain : Ino → ℕ) (tid : ℕ) (stamp : Stamp) (said : Answer) (under : Under) → gone_in under ≡ gone_in c.under → Frees c.files under → FindGain gain (gone_in under) said → Taken c gain (take_reply c tid stamp said under)
-reply_taken c gain tid stamp said Idle same frees less = inl (same_row c)
-reply_taken c gain tid stamp said (AtStore number entry ino head) same frees less = inl (same_row c)
-reply_taken c gain tid stamp said (Open number open_tid text asked let_go) same frees less =
-    taken_if c gain (open_tid == tid && takes_answer c said) _ (stays c) (λ is. answer_taken c gain number text asked let_go stamp said same (free_again c.files let_go asked frees.1) less) (inl (same_row c))
+reply_taken : (c : Client) (gain : Ino → ℕ) (tid : ℕ) (stamp : Stamp) (said : Answer) (under : Under) → gone_in under ≡ gone_in c.under → ((x : Ino) → wants_write x c.under ≡ true → wants_write x under ≡ true) → Frees c.files under → FindGain gain (gone_in under) said → Taken c gain (take_reply c tid stamp said under)
+reply_taken c gain tid stamp said Idle same wants frees exact = inl (same_row c)
+reply_taken c gain tid stamp said (AtStore number entry ino head) same wants frees exact = inl (same_row c)
+reply_taken c gain tid stamp said (Open number open_tid text asked let_go) same wants frees exact =
+    taken_if c gain (open_tid == tid && takes_answer c said) _ (stays c) (λ is. answer_taken c gain number text asked let_go stamp said same wants (and_parts (open_tid == tid) (takes_answer c said) is).1 (free_again c.files let_go asked frees.1) exact) (inl (same_row c))
 
 -- notices leave the modes
 marked_mode : (old new : Context) (file : HeldFile) → (marked old new file).mode ≡ file.mode
@@ -457,7 +483,7 @@ IsOwn c m = (mark m ≡ Number c.conn) × IsAnswer c m
 
 -- what a message of the server makes of the client
 abbrev pub ToldLends : Client → ToClient → Row Client → Type 0
-ToldLends c m r = Quiet c r ⊎ ((IsOwn c m × (Ends c (gain_of c m) r ⊎ AsksNow c r)) ⊎ Returns c r)
+ToldLends c m r = Quiet c r ⊎ ((IsOwn c m × (Ends c (gain_of c m) r ⊎ (AsksNow c r × WantsStill c r))) ⊎ Returns c r)
 
 heard_same : (c : Client) (m : ToClient) → Quiet c (stays (having_heard c m))
 heard_same c m = record { conn = refl; under = refl; modes = λ x. refl; once = λ once. once; says = tt }
@@ -465,7 +491,7 @@ heard_same c m = record { conn = refl; under = refl; modes = λ x. refl; once = 
 wide_taken : (c : Client) (m : ToClient) (r : Row Client) → IsOwn c m → Taken (having_heard c m) (gain_of c m) r → ToldLends c m r
 wide_taken c m r own (inl q) = inl (record { conn = q.conn; under = q.under; modes = q.modes; once = q.once; says = q.says })
 wide_taken c m r own (inr (inl q)) = inr (inl (own, inl (record { conn = q.conn; under = q.under; modes = q.modes; once = q.once; none = q.none })))
-wide_taken c m r own (inr (inr q)) = inr (inl (own, inr (record { number = q.number; tid = q.tid; text = q.text; asked = q.asked; before = q.before; conn = q.conn; under = q.under; files = q.files; free = q.free; gone = q.gone; sent = q.sent })))
+wide_taken c m r own (inr (inr q)) = inr (inl (own, inr (record { number = q.0.number; tid = q.0.tid; text = q.0.text; asked = q.0.asked; before = q.0.before; conn = q.0.conn; under = q.0.under; files = q.0.files; free = q.0.free; gone = q.0.gone; sent = q.0.sent }, q.1)))
 
 first_of_two : (a b : Bool) → (a && b) ≡ true → a ≡ true
 first_of_two true b is = refl
@@ -485,15 +511,19 @@ gone_same x ino (y ∷ gone) is = both_same (is_ino x y) (is_ino ino y) (is_gone
     both_same : (a b p q : Bool) → a ≡ b → p ≡ q → (a || p) ≡ (b || q)
     both_same a b p q one two = rw (one, two) refl
 
-one_if : (a b d e : Bool) → a ≡ true → b ≡ true → d ≡ false → e ≡ false → 1 ≤ cond a (cond (b && not d && not e) 1 0) 0
-one_if a b d e one two three four = rw (one, two, three, four) (omega arith)
+one_if : (a b d e : Bool) → a ≡ true → (b ≡ true → e ≡ false) → ◌≡◌ {A = ℕ} (cond a (cond (b && not d && not e) 1 0) 0) (cond (b && not d) 1 0)
+one_if true true true e one none = refl
+one_if true true false true one none = absurd (true≢false (none refl))
+one_if true true false false one none = refl
+one_if true false d e one none = refl
+one_if false b d e one none = absurd (true≢false (sym one))
 
 find_gain : (b : Bool) (gone : List Ino) (said : Answer) → b ≡ true → FindGain (λ x. cond b (found_in gone x said) 0) gone said
-find_gain b gone (answer.FoundLive ino perm size write_held) now = λ x same not_writer not_gone. one_if b (is_ino x ino) write_held (is_gone x gone) now same not_writer (gone_same x ino gone same ∙ not_gone)
-find_gain b gone said now = tt
+find_gain b gone (answer.FoundLive ino perm size write_held) now = λ not_gone x. one_if b (is_ino x ino) write_held (is_gone x gone) now (λ same. gone_same x ino gone same ∙ not_gone)
+find_gain b gone said now = λ x. rw now refl
 
-grant_gain : (a : Bool) (x ino : Ino) (mode : Mode) → a ≡ true → is_ino x ino ≡ true → rank mode ≤ cond (a && is_ino x ino) (rank mode) 0
-grant_gain a x ino mode now same = rw (now, same) (omega arith)
+grant_gain : (a : Bool) (x ino : Ino) (mode : Mode) → a ≡ true → cond (a && is_ino x ino) (rank mode) 0 ≡ cond (is_ino x ino) (rank mode) 0
+grant_gain a x ino mode now = rw now refl
 
 same_number : (a b : ℕ) → (a == b) ≡ true → a ≡ b
 same_number a b test = grind (arith, nat_tests, test)
@@ -505,9 +535,9 @@ told_lends c (Restarted st) frees = by_test (to_client_fits (Restarted st))
     by_test true = inr (inr (record { conn = refl; under = refl; files = refl; says = (claims c.files, c.unacked, open_request c.under, refl) }))
     by_test false = inl (heard_same c (Restarted st))
 told_lends c (Reply conn tid st said) frees = let m = Reply conn tid st said in
-    numbered_lends c conn (to_client_fits m) (take_reply (having_heard c m) tid st said c.under) m (λ now. wide_taken c m _ (ap Number (same_number conn c.conn now), λ rest. rw now refl) (reply_taken (having_heard c m) (gain_of c m) tid st said c.under refl frees (find_gain (conn == c.conn) (gone_in c.under) said now)))
+    numbered_lends c conn (to_client_fits m) (take_reply (having_heard c m) tid st said c.under) m (λ now. wide_taken c m _ (ap Number (same_number conn c.conn now), λ rest. rw now refl) (reply_taken (having_heard c m) (gain_of c m) tid st said c.under refl (λ x is. is) frees (find_gain (conn == c.conn) (gone_in c.under) said now)))
 told_lends c (Grant conn tid st ino mode size file) frees = let m = Grant conn tid st ino mode size file in
-    numbered_lends c conn (to_client_fits m) (take_grant (having_heard c m) tid st ino mode size file c.under) m (λ now. wide_taken c m _ (ap Number (same_number conn c.conn now), λ rest. rw now refl) (grant_taken (having_heard c m) (gain_of c m) tid st ino mode size file c.under (λ x same. grant_gain (conn == c.conn) x ino mode now same)))
+    numbered_lends c conn (to_client_fits m) (take_grant (having_heard c m) tid st ino mode size file c.under) m (λ now. wide_taken c m _ (ap Number (same_number conn c.conn now), λ rest. rw now refl) (grant_taken (having_heard c m) (gain_of c m) tid st ino mode size file c.under (λ x. grant_gain (conn == c.conn) x ino mode now)))
 told_lends c (Recall conn st ino) frees = let m = Recall conn st ino in
     numbered_lends c conn (to_client_fits m) (take_own (having_heard c m) m) m (λ now. inl (record { conn = refl; under = refl; modes = λ x. has_with x ino recalled (λ file. refl) c.files; once = λ once. distinct_with ino recalled c.files once; says = tt }))
 told_lends c (Notice conn st update) frees = let m = Notice conn st update in

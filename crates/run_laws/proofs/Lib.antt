@@ -72,3 +72,5 @@ mod Quiet
 mod Answering
 mod Belonging
 mod Opening
+mod Summed
+mod Telling

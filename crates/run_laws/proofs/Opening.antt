@@ -36,14 +36,14 @@ use Rattle.held_files.specs.Due.{first_due, sent}
 use Rattle.held_files.specs.Files.{Item, OfPiece, OfMark, file_of, is_writer, is_held, is_ino}
 use Rattle.step_table.specs.Messages.{to_client_fits, from_store_fits}
 use Rattle.step_table.specs.Row.{Row}
-use Rattle.step_table.specs.ServerState.{Asked, Server, welcome}
+use Rattle.step_table.specs.ServerState.{Asked, Server, number_of, welcome}
 use Rattle.step_table.specs.Acts.{Act, act, as_list, entry_for}
 use Rattle.step_table.specs.Requests.{kept_for}
 use Rattle.step_table.specs.Flushes.{connected}
-use Rattle.step_table.specs.ClientState.{Client, Under, Idle, Open, AtStore, Edit, edit_of, open_request, stays, asks, edits, reads_head, replies, sent_again, connects}
+use Rattle.step_table.specs.ClientState.{Client, new_client, Under, Idle, Open, AtStore, Edit, edit_of, open_request, stays, asks, edits, reads_head, replies, sent_again, connects}
 use Rattle.step_table.specs.ClientLines.{edit_file, edit_line, read_line, opened, begin_asked, begin_other, begin_with, begin, may_begin, op_of, on_op, on_flush, send_item, send_due, sends_due, unsent_in, file_due, reading}
 use Rattle.step_table.specs.ClientTakes.{having_heard, may_take, goes_on, granted, asks_for, take_grant, with_found, found, asks_anew, take_answer, takes_answer, take_reply, take_own, wants_bytes, handles_after, updated, acked, on_told, key_of, is_key, store_answer, take_read, take_stored, on_stored}
-use Rattle.step_table.specs.World.{start, after}
+use Rattle.step_table.specs.World.{start, after, lines_of}
 use Rattle.run_laws.specs.Moments.{steps_of, world_after}
 use Rattle.run_laws.specs.Links.{View, EachClient, Offer}
 use Rattle.run_laws.specs.Requests.{IsIt, IsTid, OpenAt, AllOf, is_of, AllUpTo, AllAbove, AllLess, Rising}
@@ -57,23 +57,23 @@ use Rattle.run_laws.proofs.Strangers.{NoneOf}
 use Rattle.run_laws.proofs.Making.{IsNew, op_new}
 use Rattle.run_laws.proofs.Buffered.{entries_one, hand_it, asking_of}
 use Rattle.run_laws.proofs.Answering.{Fits, Replied, replied_kept, replied_rules, first_replied, never_kept, last_same, last_none}
-use Rattle.run_laws.proofs.Views.{run_keeps}
+use Rattle.run_laws.proofs.Views.{KeptByRows, run_keeps}
 use Rattle.run_laws.proofs.ViewActs.{KeptViews, RulesFit, rows_of_acts, both, given}
 
 -- entries, one by one
 step_skips : (n : ℕ) (o : Option (ℕ × Request)) (e : Entry) (before : List Handle) → (is_of n e && not (is_open o e.number)) ≡ false → cond (is_of n e && not (is_open o e.number)) (opens_after n (change_in e.what) before) before ≡ before
 step_skips n o e before is = rw is refl
 
-not_its : (a b : Bool) → a ≡ false → (a && b) ≡ false
+pub not_its : (a b : Bool) → a ≡ false → (a && b) ≡ false
 not_its true b is = absurd (true≢false is)
 not_its false b is = refl
 
-not_now : (a b : Bool) → b ≡ true → (a && not b) ≡ false
+pub not_now : (a b : Bool) → b ≡ true → (a && not b) ≡ false
 not_now true true is = refl
 not_now false true is = refl
 not_now a false is = absurd (true≢false (sym is))
 
-both_are : (a b : Bool) → a ≡ true → b ≡ false → (a && not b) ≡ true
+pub both_are : (a b : Bool) → a ≡ true → b ≡ false → (a && not b) ≡ true
 both_are true false is isnt = refl
 both_are true true is isnt = absurd (true≢false isnt)
 both_are false b is isnt = absurd (true≢false (sym is))
@@ -92,7 +92,7 @@ none_left : (n : ℕ) (o : Option (ℕ × Request)) (before : List Handle) (entr
 none_left n o before [] none = refl
 none_left n o before (e ∷ entries) none = ap (λ (l : List Handle). left_open n o l entries) (step_skips n o e before (not_its (is_of n e) (not (is_open o e.number)) none.0)) ∙ none_left n o before entries none.1
 
-its_tid : (o : Option (ℕ × Request)) (tid : ℕ) → IsTid o tid → is_open o tid ≡ true
+pub its_tid : (o : Option (ℕ × Request)) (tid : ℕ) → IsTid o tid → is_open o tid ≡ true
 its_tid None tid is = absurd is
 its_tid (Some r) tid is = grind (arith, nat_tests, is)
 
@@ -105,7 +105,7 @@ open_left n o before (e ∷ entries) all = ap (λ (l : List Handle). left_open n
     by_test false is = refl
 
 -- no effect has the number of what is open
-abbrev NotOf : ℕ → Option (ℕ × Request) → List Entry → Type 0
+abbrev pub NotOf : ℕ → Option (ℕ × Request) → List Entry → Type 0
 NotOf n o [] = Unit {0}
 NotOf n o (e ∷ entries) = (is_of n e ≡ true → is_open o e.number ≡ false) × NotOf n o entries
 
@@ -121,11 +121,11 @@ less_not : (n : ℕ) (r : ℕ × Request) (entries : List Entry) → AllLess n r
 less_not n r [] all = tt
 less_not n r (e ∷ entries) all = ((λ is. let less = all.0 is in grind (arith, nat_tests, less)), less_not n r entries all.1)
 
-upto_not : (n t : ℕ) (r : ℕ × Request) (entries : List Entry) → t < r.0 → AllUpTo n t entries → NotOf n (Some r) entries
+pub upto_not : (n t : ℕ) (r : ℕ × Request) (entries : List Entry) → t < r.0 → AllUpTo n t entries → NotOf n (Some r) entries
 upto_not n t r [] less all = tt
 upto_not n t r (e ∷ entries) less all = ((λ is. let most = all.0 is in grind (arith, nat_tests, less, most)), upto_not n t r entries less all.1)
 
-none_above : (n t : ℕ) (entries : List Entry) → AllAbove n t entries → AllUpTo n t entries → NoneOf n entries
+pub none_above : (n t : ℕ) (entries : List Entry) → AllAbove n t entries → AllUpTo n t entries → NoneOf n entries
 none_above n t [] above upto = tt
 none_above n t (e ∷ entries) above upto = (by_test (is_of n e) refl, none_above n t entries above.1 upto.1)
   where
@@ -134,14 +134,14 @@ none_above n t (e ∷ entries) above upto = (by_test (is_of n e) refl, none_abov
     by_test false is = is
 
 -- where the open request has its effect, that is the last one
-abbrev Ends : ℕ → ℕ × Request → Answer → List Handle → List Entry → Type 0
+abbrev pub Ends : ℕ → ℕ × Request → Answer → List Handle → List Entry → Type 0
 Ends n r k before entries = (made : Change) × (answer_to_change made ≡ k) × CanMake r.1 made × (left_open n None before entries ≡ opens_by n made (left_open n (Some r) before entries))
 
 ends_from : (n : ℕ) (r : ℕ × Request) (k : Answer) (before after : List Handle) (e : Entry) (entries : List Entry)
     → left_open n None before (e ∷ entries) ≡ left_open n None after entries → left_open n (Some r) before (e ∷ entries) ≡ left_open n (Some r) after entries → Ends n r k after entries → Ends n r k before (e ∷ entries)
 ends_from n r k before after e entries one two ends = (ends.0, ends.1, ends.2, one ∙ ends.3 ∙ ap (opens_by n ends.0) (sym two))
 
-last_ends : (n : ℕ) (r : ℕ × Request) (k : Answer) (entries : List Entry) (last : Option (ℕ × Answer)) (before : List Handle) → Rising n entries → AllUpTo n r.0 entries → AllMadeBy n r.0 r.1 entries → kept_for r.0 last ≡ None → kept_for r.0 (last_from n last entries) ≡ Some k → Ends n r k before entries
+pub last_ends : (n : ℕ) (r : ℕ × Request) (k : Answer) (entries : List Entry) (last : Option (ℕ × Answer)) (before : List Handle) → Rising n entries → AllUpTo n r.0 entries → AllMadeBy n r.0 r.1 entries → kept_for r.0 last ≡ None → kept_for r.0 (last_from n last entries) ≡ Some k → Ends n r k before entries
 last_ends n r k [] last before rising upto made none kept = absurd (none_some (sym none ∙ kept))
   where
     none_some : None ≡ Some k → ⊥
@@ -228,7 +228,7 @@ settled : (n : ℕ) (h : Client) (r : ℕ × Request) (entries : List Entry) (sa
 settled n h r entries said number rising upto made by has = by_kept (kept_of n r.0 entries) refl by
   where
     by_kept : (o : Option Answer) → kept_of n r.0 entries ≡ o → ByKept r.1 o said → left_open n None [] entries ≡ handles_after h said r.1
-    by_kept None none refuses = sym (not_left n (Some r) [] entries (less_not n r entries (new_less n r.0 entries none rising upto))) ∙ sym has ∙ sym (refused_same h said r.1 refuses)
+    by_kept None none refuses = sym (not_left n (Some r) [] entries (less_not n r entries (new_less n r.0 entries none rising upto))) ∙ sym has ∙ sym (refused_same h said r.1 refuses.1)
     by_kept (Some k) kept same =
         let ends = last_ends n r k entries None [] rising upto made refl kept in
         ends.3 ∙ ap (opens_by n ends.0) (sym has) ∙ sym (opened_same n h r.1 ends.0 number ends.2) ∙ ap (λ (a : Answer). handles_after h a r.1) (ends.1 ∙ sym same)
@@ -372,7 +372,7 @@ answer_now n entries h number text asked let_go stamp said its upto is = (its, s
 update_now : (n : ℕ) (entries : List Entry) (c : Client) (update : List FileTrace) → Now n entries c → Now n entries (updated c update)
 update_now n entries c update now = now_same n entries c (updated c update) (updated_handles c update) (ap open_request (updated_same (λ (v : Client). v.under) (λ v ino new. refl) update c)) now
 
-asked_again : (under : Under) → open_request (sent_again under) ≡ open_request under
+pub asked_again : (under : Under) → open_request (sent_again under) ≡ open_request under
 asked_again Idle = refl
 asked_again (Open number tid line request let_go) = refl
 asked_again (AtStore number entry ino head) = refl
@@ -382,7 +382,7 @@ record Told (n : ℕ) (entries : List Entry) (tid : ℕ) : Type 0 where
   pub rising : Rising n entries
   pub upto : AllUpTo n tid entries
 
-abbrev MadeFor : ℕ → List Entry → Option (ℕ × Request) → Type 0
+abbrev pub MadeFor : ℕ → List Entry → Option (ℕ × Request) → Type 0
 MadeFor n entries o = IfSome o (λ r. AllMadeBy n r.0 r.1 entries)
 
 reply_now : (n : ℕ) (entries : List Entry) (h : Client) (tid : ℕ) (stamp : Stamp) (said : Answer) (under : Under) → h.under ≡ under → Told n entries h.tid → IfSome (open_request under) (λ r. r.0 ≡ h.tid) → MadeFor n entries (open_request under) → IfSome (open_request under) (λ r. ByKept r.1 (kept_of n r.0 entries) said) → Now n entries h → Now n entries (take_reply h tid stamp said under).state
@@ -421,11 +421,11 @@ grant_now n entries h tid stamp ino mode size file (Open number open_tid text as
     by_edit (Some e) none = (now.0, free none)
     by_edit None none = (now.0, free none)
 
-first_of_two : (a b : Bool) → (a && b) ≡ true → a ≡ true
+pub first_of_two : (a b : Bool) → (a && b) ≡ true → a ≡ true
 first_of_two true b is = refl
 first_of_two false b is = is
 
-last_open : (n : ℕ) (c : Client) (up : List ToServer) (down : List ToClient) (s : Server) → Replied n c up down s → IfSome (open_request c.under) (λ r. r.0 ≡ c.tid)
+pub last_open : (n : ℕ) (c : Client) (up : List ToServer) (down : List ToClient) (s : Server) → Replied n c up down s → IfSome (open_request c.under) (λ r. r.0 ≡ c.tid)
 last_open n c up down s all = by_open (open_request c.under) (asking_of n c up down s all.0.0).1.opened
   where
     by_open : (o : Option (ℕ × Request)) → OpenAt c.tid o → IfSome o (λ r. r.0 ≡ c.tid)
@@ -519,6 +519,12 @@ opening_rules = record {
   turns = λ n c up down s all. replied_rules.turns n c up down s all.0;
 }
 
+pub first_opening : (script : Script) (n : ℕ) → number_of (start script).server.current n ≡ Some 1 → Opening n (new_client n (script.clients + 1) (lines_of n script.lines)) [] [] (start script).server
+first_opening script n is = (first_replied script n is, (refl, refl))
+
+pub opening_rows : KeptByRows Opening
+opening_rows = rows_of_acts Opening opening_kept opening_rules
+
 pub open_law : (script : Script) (history : List Event) → EachClient HasOpen (world_after script history)
 open_law script history = each_part Opening HasOpen (world_after script history) (λ n c up down s all. all.1.1)
-    (run_keeps Opening (rows_of_acts Opening opening_kept opening_rules) (start script) (steps_of history) (at_start Opening script (λ n is. (first_replied script n is, (refl, refl)))))
+    (run_keeps Opening opening_rows (start script) (steps_of history) (at_start Opening script (first_opening script)))

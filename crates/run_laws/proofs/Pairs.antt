@@ -1,23 +1,33 @@
 -- Of two clients one holds a file for Write at most, and then the other doesn't hold it, along each run.
-use Rattle.std.proofs.Common.{◌≡◌, ◌≤◌, ℕ, ◌+◌, List, [], ◌∷◌, map, Bool, true, false, true≢false, cond, Option, None, Some, refl, sym, ◌∙◌, subst, IfSome, arith, inl, inr}
+use Rattle.std.proofs.Common.{◌≡◌, ◌≤◌, ℕ, ◌+◌, List, [], ◌∷◌, ◌++◌, map, Bool, true, false, true≢false, cond, Option, None, Some, refl, sym, ◌∙◌, subst, IfSome, arith, inl, inr}
 use Rattle.std.proofs.lemmas.Bool.Decides.{nat_tests}
-use Rattle.std.specs.Prelude.{◌==◌, ◌||◌, is_some}
+use Rattle.std.specs.Prelude.{◌==◌, ◌||◌, ◌&&◌, not, is_some}
 use Rattle.std.specs.List.{list_any, list_all}
 use Rattle.snap_ids.specs.declared.id.Ino.{Ino}
+use Rattle.snap_ids.specs.declared.values.Mode.{Mode}
+use Rattle.snap_ids.specs.declared.values.Mode.TheVariants.{Read, Write}
+use Rattle.plain_types.specs.declared.answer.Answer.{Answer}
+use Rattle.plain_types.specs.declared.answer.Answer.TheVariants as answer
+use Rattle.held_files.specs.Files.{is_ino}
 use Rattle.plain_types.specs.declared.history.Event.{Event}
 use Rattle.plain_types.specs.declared.history.Step.{Step}
 use Rattle.plain_types.specs.declared.message.ToClient.{ToClient}
+use Rattle.plain_types.specs.declared.message.ToClient.TheVariants.{Reply, Grant}
 use Rattle.plain_types.specs.declared.message.ToServer.{ToServer}
 use Rattle.plain_types.specs.declared.script.Script.{Script}
 use Rattle.step_table.specs.Row.{Row}
 use Rattle.step_table.specs.ServerState.{Server, number_of, up_to, all_connected}
-use Rattle.step_table.specs.ClientState.{Client, new_client}
+use Rattle.step_table.specs.ClientState.{Client, open_request, new_client}
 use Rattle.step_table.specs.ClientLines.{on_op, on_flush}
 use Rattle.step_table.specs.ServerRows.{on_commit, on_restart, on_tend}
 use Rattle.step_table.specs.World.{World, row, after_row, after, client, start, lines_of}
-use Rattle.run_laws.specs.Holding.{OneClientWrites}
-use Rattle.run_laws.specs.Links.{View, EachClient, mine}
+use Rattle.run_laws.specs.Holding.{finds, is_given, WriterIsAlone, OneClientWrites}
+use Rattle.run_laws.specs.Tenures.{gone_in}
+use Rattle.run_laws.proofs.Sharing.{Covered, CoverBy}
+use Rattle.run_laws.specs.Links.{View, EachClient, mine, mail_of}
 use Rattle.run_laws.specs.Moments.{steps_of, world_after}
+use Rattle.run_laws.proofs.Answering.{Replied, NoReplyToCap, no_reply_to_cap, replied_rows, first_replied}
+use Rattle.run_laws.proofs.Buffered.{AllThat, that_front, that_weaker}
 use Rattle.run_laws.proofs.Apart.{Few, FewUnless, few_step}
 use Rattle.run_laws.proofs.Bounding.{act_clients, BoundAt, Bounded, Rising}
 use Rattle.run_laws.proofs.Files.{has_writer, held_not}
@@ -28,7 +38,7 @@ use Rattle.run_laws.proofs.Linked.{at_start, each_part, first_link}
 use Rattle.run_laws.proofs.Requested.{Asking, asking, first_requested}
 use Rattle.run_laws.proofs.Returning.{Clear, has_most}
 use Rattle.run_laws.proofs.Serving.{ServerGives, Keeps, NoClient, no_client_step, no_client_start, step_serves}
-use Rattle.run_laws.proofs.Shares.{has, shares, one_shares}
+use Rattle.run_laws.proofs.Shares.{rank, has, shares, found_in, gives, AllGive, or_none, writer_two, one_shares}
 use Rattle.run_laws.proofs.Sharers.{Sharer, Before, After, sharers}
 use Rattle.run_laws.proofs.Strangers.{Strange, strange_step, strangers}
 use Rattle.run_laws.proofs.Taking.{All, rows_of_all, first_all, joined, alone}
@@ -112,6 +122,7 @@ record Pairs (w : World) : Type 0 where
 
 record Holds (w : World) : Type 0 where
   pub base : EachClient Base w
+  pub replied : EachClient Replied w
   pub tables : Tables w.server
   pub nobody : NoClient w
   pub strange : (n : ℕ) → Strange n w
@@ -130,12 +141,15 @@ share_most w h x ino = by_client (client w.clients x) refl (h.pairs.bounded x)
     by_client (Some c) is bounded = held_most (number_of w.server.current x) (shares x ino w.server.holders) _ (h.pairs.most x ino) (bounded ino)
 
 before_all : (w : World) (h : Holds w) → EachClient (Before h.pairs.most) w
-before_all w h n = found (client w.clients n) (h.base n) (h.sharer n) (h.pairs.bounded n)
+before_all w h n = found (client w.clients n) (h.base n) (h.replied n) (h.sharer n) (h.pairs.bounded n)
   where
-    found : (o : Option Client) → IfSome o (λ c. Base n c (mine n w.up) (mine n w.down) w.server) → IfSome o (λ c. Sharer n c (mine n w.up) (mine n w.down) w.server) → IfSome o (λ c. Bounded h.pairs.most n c (mine n w.up) (mine n w.down) w.server) → IfSome o (λ c. Before h.pairs.most n c (mine n w.up) (mine n w.down) w.server)
-    found None base sharer bounded = tt
-    found (Some c) base sharer bounded = ((base.0.0, (base.0.1.1, base.1.0.0)), (sharer, (clear, bounded)))
+    found : (o : Option Client) → IfSome o (λ c. Base n c (mine n w.up) (mine n w.down) w.server) → IfSome o (λ c. Replied n c (mine n w.up) (mine n w.down) w.server) → IfSome o (λ c. Sharer n c (mine n w.up) (mine n w.down) w.server) → IfSome o (λ c. Bounded h.pairs.most n c (mine n w.up) (mine n w.down) w.server) → IfSome o (λ c. Before h.pairs.most n c (mine n w.up) (mine n w.down) w.server)
+    found None base replied sharer bounded = tt
+    found (Some c) base replied sharer bounded = ((base.0.0, (base.0.1.1, (base.1.0.0, no_replies))), (sharer, (clear, bounded)))
       where
+        no_replies : AllThat (NoReplyToCap c.conn (open_request c.under)) (mine n w.down)
+        no_replies = that_weaker _ _ (λ m well. no_reply_to_cap n c w.server.entries m replied.0.1 well) (mine n w.down) (that_front _ (mine n w.down) (mail_of n w.server.mail) replied.1)
+
         clear : Clear n c (mine n w.up) (mine n w.down) w.server
         clear x other ino =
             let one = share_most w h x ino in
@@ -143,7 +157,7 @@ before_all w h n = found (client w.clients n) (h.base n) (h.sharer n) (h.pairs.b
             let both = h.pairs.pair x n other ino in omega (arith, one, two, both)
 
 next : (w : World) (step : Step) → Holds w → Holds (after_row w (row w step))
-next w step h = record { base = base; tables = tables; nobody = no_client_step w step h.nobody; strange = λ n. strange_step n w step (h.strange n); sharer = each_part (After h.pairs.most) Sharer w2 (λ n c up down s a. a.0) after_all; pairs = by_test (all_connected w2.server) refl }
+next w step h = record { base = base; replied = step_keeps Replied replied_rows w step h.replied; tables = tables; nobody = no_client_step w step h.nobody; strange = λ n. strange_step n w step (h.strange n); sharer = each_part (After h.pairs.most) Sharer w2 (λ n c up down s a. a.0) after_all; pairs = by_test (all_connected w2.server) refl }
   where
     w2 : World
     w2 = after_row w (row w step)
@@ -196,10 +210,11 @@ next w step h = record { base = base; tables = tables; nobody = no_client_step w
 first : (script : Script) → Holds (start script)
 first script = record {
   base = at_start Base script (λ n is. ((first_all script n is, ((tt, first_link (new_client n (script.clients + 1) (lines_of n script.lines)) _ refl is), first_requested n (new_client n (script.clients + 1) (lines_of n script.lines)) (start script).server refl refl refl refl refl refl refl)), ((tt, tt), placed_in n (up_to script.clients) is)));
+  replied = at_start Replied script (first_replied script);
   tables = (tt, tt);
   nobody = no_client_start script;
   strange = λ n. strangers script [] n;
-  sharer = at_start Sharer script (λ n is. (tt, (rw is (record { cover = λ ino. (omega arith, tt); dropped = λ ino any one. absurd (true≢false (sym any)); lets = tt; frees = tt; grants = tt }), record { held = λ ino. inl refl; coming = tt; post = tt })));
+  sharer = at_start Sharer script (λ n is. (tt, (rw is (record { cover = λ ino. (omega arith, tt); dropped = λ ino any one. absurd (true≢false (sym any)); lets = tt; frees = tt; grants = tt; writers = λ ino two. absurd (omega (arith, two)); says = tt }), record { held = λ ino. inl refl; coming = tt; post = tt })));
   pairs = record { most = λ n ino. 0; pair = λ a b other ino. omega arith; bounded = at_start (Bounded (λ n ino. 0)) script (λ n is ino. rw is (omega arith)); few = λ n none ino. omega arith };
 }
 
@@ -223,3 +238,61 @@ held_once_law script history a b c d ino is_c is_d differs writes = held_not ino
 
 pub sharers_hold : (script : Script) (steps : List Step) → EachClient Sharer (after (start script) steps)
 sharers_hold script steps = (run (start script) steps (first script)).sharer
+
+-- what gives nothing isn't given
+not_given : (conn : ℕ) (gone : List Ino) (ino : Ino) (p : List ToClient) → AllGive conn gone ino 0 p → list_any (is_given conn gone ino) p ≡ false
+not_given conn gone ino [] all = refl
+not_given conn gone ino (m ∷ p) all = or_none (is_given conn gone ino m) (list_any (is_given conn gone ino) p) (one m all.0) (not_given conn gone ino p all.1)
+  where
+    by_mode : (b : Bool) (mode : Mode) → cond b (rank mode) 0 ≤ 0 → b ≡ false
+    by_mode true Read none = absurd (omega (arith, none))
+    by_mode true Write none = absurd (omega (arith, none))
+    by_mode false mode none = refl
+
+    by_tests : (a b : Bool) → cond a (cond b 1 0) 0 ≤ 0 → (a && b) ≡ false
+    by_tests true true none = absurd (omega (arith, none))
+    by_tests true false none = refl
+    by_tests false b none = refl
+
+    and_none : (b : Bool) → (b && false) ≡ false
+    and_none true = refl
+    and_none false = refl
+
+    by_said : (b : Bool) (said : Answer) → cond b (found_in gone ino said) 0 ≤ 0 → (b && finds gone ino said) ≡ false
+    by_said b (answer.FoundLive file perm size write_held) none = by_tests b (is_ino ino file && not write_held && not (list_any (is_ino ino) gone)) none
+    by_said b said none = and_none b
+
+    one : (m : ToClient) → gives conn gone ino m ≤ 0 → is_given conn gone ino m ≡ false
+    one (Grant k tid st file mode size trace) none = by_mode (k == conn && is_ino ino file) mode none
+    one (Reply k tid st said) none = by_said (k == conn) said none
+    one m none = refl
+
+pub alone_law : (script : Script) (history : List Event) → WriterIsAlone (world_after script history)
+alone_law script history a b d ino is_d differs writes =
+    let none = covered (number_of w.server.current b) sharer.1.0.cover (bounded ino) in
+    (held_not ino d.files (let few = none.0 in omega (arith, few)), not_given d.conn (gone_in d.under) ino (mine b w.down ++ mail_of b w.server.mail) none.1)
+  where
+    w : World
+    w = world_after script history
+
+    h : Holds w
+    h = run (start script) (steps_of history) (first script)
+
+    sharer : Sharer b d (mine b w.up) (mine b w.down) w.server
+    sharer = subst (λ (o : Option Client). IfSome o (λ c. Sharer b c (mine b w.up) (mine b w.down) w.server)) is_d (h.sharer b)
+
+    bounded : Bounded h.pairs.most b d (mine b w.up) (mine b w.down) w.server
+    bounded = subst (λ (o : Option Client). IfSome o (λ c. Bounded h.pairs.most b c (mine b w.up) (mine b w.down) w.server)) is_d (h.pairs.bounded b)
+
+    zero_now : h.pairs.most b ino ≡ 0
+    zero_now = let share = share_most w h a ino in let two = writer_two a ino w.server.holders writes in let both = h.pairs.pair a b differs ino in omega (arith, share, two, both)
+
+    Now : ℕ → Type 0
+    Now most = Covered d.conn (gone_in d.under) d.files (mine b w.down ++ mail_of b w.server.mail) ino most
+
+    covered : (o : Option ℕ) → CoverBy (Covered d.conn (gone_in d.under) d.files (mine b w.down ++ mail_of b w.server.mail)) (λ x. shares b x w.server.holders) o → BoundAt o (shares b ino w.server.holders) Now (h.pairs.most b ino) → Now 0
+    covered None cover bound = subst Now zero_now bound.1
+    covered (Some j) cover bound = subst Now (let most = zero_now in none_share (shares b ino w.server.holders) bound most) (cover ino)
+      where
+        none_share : (held : ℕ) {most : ℕ} → held ≤ most → most ≡ 0 → held ≡ 0
+        none_share held less is = omega (arith, less, is)

@@ -26,23 +26,33 @@ use Rattle.step_table.specs.World.{to_server as for_server}
 use Rattle.run_laws.specs.Links.{Offer, Up, Behind}
 use Rattle.run_laws.specs.Requests.{answers}
 use Rattle.run_laws.proofs.Asked.{asks_append}
-use Rattle.run_laws.specs.Tenures.{Distinct}
+use Rattle.run_laws.specs.Tenures.{Distinct, gone_in, is_gone, is_release, wants_write}
 use Rattle.run_laws.proofs.Files.{has_none, has_other, file_same}
-use Rattle.run_laws.proofs.Lending.{AllPlain, Quiet, NotOpen, Ends, AsksNow, drop_list, Returns, LetsGo, gone_same, free_again}
+use Rattle.run_laws.proofs.Lending.{AllPlain, Quiet, NotOpen, Ends, AsksNow, drop_list, Returns, LetsGo, WantsStill, gone_same, free_again}
+use Rattle.run_laws.proofs.Holders.{or_false}
 use Rattle.run_laws.proofs.Link.{up_most}
 use Rattle.run_laws.proofs.Shares.{rank, rank_in, has, found_in, gives, AllGive, give_more, or_none}
-use Rattle.run_laws.proofs.Sharing.{gone_in, is_gone, is_release, is_drop, is_cap, AllLet, Lets, CapFree, Frees, IsAsked, GrantAt, AllGrants, Covered, CoverBy, DroppedBy, SharesAt}
+use Rattle.run_laws.proofs.Sharing.{is_drop, is_cap, AllLet, Lets, CapFree, Frees, IsAsked, GrantAt, AllGrants, Covered, CoverBy, DroppedBy, SharesAt, Says, SaysIn, SaysAt, AllSay, Writes, writers_go}
+
+or_right : (a b : Bool) → b ≡ true → (a || b) ≡ true
+or_right true b is = refl
+or_right false b is = is
+
+or_left : (a b : Bool) → a ≡ true → (a || b) ≡ true
+or_left true b is = refl
+or_left false b is = absurd (true≢false (sym is))
 
 -- fewer messages
 pub record Less (conn : ℕ) (p q : List ToClient) : Type 0 where
   pub give : (gone : List Ino) (ino : Ino) (most : ℕ) → AllGive conn gone ino most p → AllGive conn gone ino most q
   pub grants : (under : Under) → AllGrants conn under p → AllGrants conn under q
+  pub says : (gone : List Ino) (files : HeldFiles) → AllSay conn gone files p → AllSay conn gone files q
 
 pub same_less : (conn : ℕ) (p : List ToClient) → Less conn p p
-same_less conn p = record { give = λ gone ino most all. all; grants = λ under all. all }
+same_less conn p = record { give = λ gone ino most all. all; grants = λ under all. all; says = λ gone files all. all }
 
 pub tail_less : (conn : ℕ) (m : ToClient) (p : List ToClient) → Less conn (m ∷ p) p
-tail_less conn m p = record { give = λ gone ino most all. all.1; grants = λ under all. all.1 }
+tail_less conn m p = record { give = λ gone ino most all. all.1; grants = λ under all. all.1; says = λ gone files all. all.1 }
 
 -- where no answer is on the way, nothing is given
 pub none_give : (conn : ℕ) (gone : List Ino) (ino : Ino) (p : List ToClient) → answers conn p ≡ 0 → AllGive conn gone ino 0 p
@@ -80,6 +90,55 @@ none_grants conn under (Notice k st update ∷ p) none = (tt, none_grants conn u
 none_grants conn under (FlushAck k st number ∷ p) none = (tt, none_grants conn under p none)
 none_grants conn under (Welcome k st last update ∷ p) none = (tt, none_grants conn under p none)
 none_grants conn under (Restarted st ∷ p) none = (tt, none_grants conn under p none)
+
+pub none_say : (conn : ℕ) (gone : List Ino) (files : HeldFiles) (p : List ToClient) → answers conn p ≡ 0 → AllSay conn gone files p
+none_say conn gone files [] none = tt
+none_say conn gone files (Reply k tid st said ∷ p) none = by_test (k == conn) refl none (none_say conn gone files p)
+  where
+    by_test : (b : Bool) → (k == conn) ≡ b → cond b (answers conn p + 1) (answers conn p) ≡ 0 → (answers conn p ≡ 0 → AllSay conn gone files p) → ((k == conn) ≡ true → SaysIn gone files said) × AllSay conn gone files p
+    by_test true is none go = absurd (omega (arith, none))
+    by_test false is none go = (λ same. absurd (true≢false (sym same ∙ is)), go none)
+none_say conn gone files (Grant k tid st ino mode size trace ∷ p) none = (tt, by_test (k == conn) none (none_say conn gone files p))
+  where
+    by_test : (b : Bool) → cond b (answers conn p + 1) (answers conn p) ≡ 0 → (answers conn p ≡ 0 → AllSay conn gone files p) → AllSay conn gone files p
+    by_test true none go = absurd (omega (arith, none))
+    by_test false none go = go none
+none_say conn gone files (Recall k st file ∷ p) none = (tt, none_say conn gone files p none)
+none_say conn gone files (Notice k st update ∷ p) none = (tt, none_say conn gone files p none)
+none_say conn gone files (FlushAck k st number ∷ p) none = (tt, none_say conn gone files p none)
+none_say conn gone files (Welcome k st last update ∷ p) none = (tt, none_say conn gone files p none)
+none_say conn gone files (Restarted st ∷ p) none = (tt, none_say conn gone files p none)
+
+-- what an answer says stays true where the file is held as before, or is let go
+says_as : (b : Bool) (old new : ℕ) → new ≡ old → Says old b → Says new b
+says_as true old new same says = let many : 2 ≤ old = says in omega (arith, same, many)
+says_as false old new same says = let few : old ≤ 1 = says in omega (arith, same, few)
+
+say_go : (conn : ℕ) (gone more : List Ino) (old new : HeldFiles) (p : List ToClient) → ((ino : Ino) → is_gone ino more ≡ false → (is_gone ino gone ≡ false) × (has ino new ≡ has ino old)) → AllSay conn gone old p → AllSay conn more new p
+say_go conn gone more old new [] go all = tt
+say_go conn gone more old new (m ∷ p) go all = (one m all.0, say_go conn gone more old new p go all.1)
+  where
+    found : (said : Answer) → SaysIn gone old said → SaysIn more new said
+    found (answer.FoundLive ino perm size write_held) says = λ left. let kept = go ino left in says_as write_held (has ino old) (has ino new) kept.1 (says kept.0)
+    found said says = tt
+
+    one : (m : ToClient) → SaysAt conn gone old m → SaysAt conn more new m
+    one (Reply k tid st said) says = λ now. found said (says now)
+    one m says = tt
+
+-- who writes a file on the server's table: as before, with more on the way to the server
+writes_as : (files new : HeldFiles) (under next : Under) (q more : List ToServer) (j : ℕ) (ino : Ino) → (2 ≤ has ino files → (2 ≤ has ino new) ⊎ (list_any (is_release j ino) more ≡ true)) → (wants_write ino under ≡ true → (2 ≤ has ino new) ⊎ (wants_write ino next ≡ true)) → Writes files under q j ino → Writes new next (q ++ more) j ino
+writes_as files new under next q more j ino holds wants (inl two) = by_place (holds two)
+  where
+    by_place : (2 ≤ has ino new) ⊎ (list_any (is_release j ino) more ≡ true) → Writes new next (q ++ more) j ino
+    by_place (inl still) = inl still
+    by_place (inr any) = inr (inl (list_any-append (is_release j ino) q more ∙ or_right (list_any (is_release j ino) q) (list_any (is_release j ino) more) any))
+writes_as files new under next q more j ino holds wants (inr (inl any)) = inr (inl (list_any-append (is_release j ino) q more ∙ or_left (list_any (is_release j ino) q) (list_any (is_release j ino) more) any))
+writes_as files new under next q more j ino holds wants (inr (inr is)) = by_place (wants is)
+  where
+    by_place : (2 ≤ has ino new) ⊎ (wants_write ino next ≡ true) → Writes new next (q ++ more) j ino
+    by_place (inl two) = inl two
+    by_place (inr still) = inr (inr still)
 
 -- what is said more on the way to the server
 pub either_true : (a b : Bool) → (a || b) ≡ true → (a ≡ true) ⊎ (b ≡ true)
@@ -138,17 +197,27 @@ frees_none files Idle is = tt
 frees_none files (AtStore number entry ino head) is = tt
 frees_none files (Open number tid text asked gone) is = absurd is
 
--- What a row of the client makes of what covers it: `p` and `q` go over into `p'` and `q'`.
-pub record Lent (conn : ℕ) (files : HeldFiles) (under : Under) (q : List ToServer) (p : List ToClient) (c : Client) (q' : List ToServer) (p' : List ToClient) : Type 0 where
+-- What a row of the client makes of what covers it: `p` and `q` go over into `p'` and `q'`; `k` is the server's number for it.
+pub record Lent (k : Option ℕ) (conn : ℕ) (files : HeldFiles) (under : Under) (q : List ToServer) (p : List ToClient) (c : Client) (q' : List ToServer) (p' : List ToClient) : Type 0 where
   pub covers : (ino : Ino) (most : ℕ) → Covered conn (gone_in under) files p ino most → Covered c.conn (gone_in c.under) c.files p' ino most
   pub drops : (j : ℕ) (ino : Ino) → list_any (is_drop j ino) q' ≡ true → Covered conn (gone_in under) files p ino 1 → (list_any (is_drop j ino) q ≡ true) ⊎ Covered c.conn (gone_in c.under) c.files p' ino 0
   pub lets : Lets c.conn c.under q'
   pub frees : Frees c.files c.under
   pub grants : AllGrants c.conn c.under p'
+  pub writers : (j : ℕ) → k ≡ Some j → (ino : Ino) → Writes files under q j ino → Writes c.files c.under q' j ino
+  pub says : AllSay c.conn (gone_in c.under) c.files p'
 
 pub shares_lent : (conn : ℕ) (files : HeldFiles) (under : Under) (q : List ToServer) (p : List ToClient) (c : Client) (q' : List ToServer) (p' : List ToClient) (k : Option ℕ) (table : Ino → ℕ)
-    → Lent conn files under q p c q' p' → SharesAt conn files under q k p table → SharesAt c.conn c.files c.under q' k p' table
-shares_lent conn files under q p c q' p' k table lent was = record { cover = covers k was.cover; dropped = drops k was.cover was.dropped; lets = lent.lets; frees = lent.frees; grants = lent.grants }
+    → Lent k conn files under q p c q' p' → SharesAt conn files under q k p table → SharesAt c.conn c.files c.under q' k p' table
+shares_lent conn files under q p c q' p' k table lent was = record {
+  cover = covers k was.cover;
+  dropped = drops k was.cover was.dropped;
+  lets = lent.lets;
+  frees = lent.frees;
+  grants = lent.grants;
+  writers = writers_go files c.files under c.under q q' table table k (λ j is ino two before. lent.writers j is ino (before two)) was.writers;
+  says = lent.says;
+}
   where
     covers : (k : Option ℕ) → CoverBy (Covered conn (gone_in under) files p) table k → CoverBy (Covered c.conn (gone_in c.under) c.files p') table k
     covers None all = tt
@@ -163,13 +232,15 @@ shares_lent conn files under q p c q' p' k table lent was = record { cover = cov
         either ino one (inr now) = now
 
 -- nothing is said of it
-pub quiet_lent : (c : Client) (r : Row Client) (up : List ToServer) (p q : List ToClient) → Quiet c r → Less c.conn p q → Lets c.conn c.under up → Frees c.files c.under → AllGrants c.conn c.under p → Lent c.conn c.files c.under up p r.state (up ++ for_server r.sent) q
-quiet_lent c r up p q quiet less lets frees grants = record {
+pub quiet_lent : (k : Option ℕ) (c : Client) (r : Row Client) (up : List ToServer) (p q : List ToClient) → Quiet c r → Less c.conn p q → Lets c.conn c.under up → Frees c.files c.under → AllGrants c.conn c.under p → AllSay c.conn (gone_in c.under) c.files p → Lent k c.conn c.files c.under up p r.state (up ++ for_server r.sent) q
+quiet_lent k c r up p q quiet less lets frees grants says = record {
   covers = λ ino most was. rw (quiet.conn, quiet.under) ((let same = quiet.modes ino in let few = was.0 in omega (arith, same, few)), less.give (gone_in c.under) ino most was.1);
   drops = λ j ino any was. inl (there j ino (drop_either j ino up (for_server r.sent) any));
   lets = rw (quiet.conn, quiet.under) (lets_plain c.conn c.under up (for_server r.sent) quiet.says lets);
   frees = rw quiet.under (frees_less c.under c.files r.state.files (λ x. let same = quiet.modes x in omega (arith, same)) frees);
   grants = rw (quiet.conn, quiet.under) (less.grants c.under grants);
+  writers = λ j is ino before. rw quiet.under (writes_as c.files r.state.files c.under c.under up (for_server r.sent) j ino (λ two. inl (let same = quiet.modes ino in omega (arith, same, two))) (λ wants. inr wants) before);
+  says = rw (quiet.conn, quiet.under) (say_go c.conn (gone_in c.under) (gone_in c.under) c.files r.state.files q (λ ino left. (left, quiet.modes ino)) (less.says (gone_in c.under) c.files says));
 }
   where
     there : (j : ℕ) (ino : Ino) → (list_any (is_drop j ino) up ≡ true) ⊎ (list_any (is_drop j ino) (for_server r.sent) ≡ true) → list_any (is_drop j ino) up ≡ true
@@ -177,13 +248,15 @@ quiet_lent c r up p q quiet less lets frees grants = record {
     there j ino (inr any) = absurd (true≢false (sym any ∙ plain_no_drop j ino (for_server r.sent) quiet.says))
 
 -- no request is open afterwards
-pub ends_lent : (c : Client) (gain : Ino → ℕ) (r : Row Client) (up : List ToServer) (p q : List ToClient) → Ends c gain r → ((ino : Ino) (most : ℕ) → AllGive c.conn (gone_in c.under) ino most p → gain ino ≤ most) → answers c.conn q ≡ 0 → Lent c.conn c.files c.under up p r.state (up ++ for_server r.sent) q
-ends_lent c gain r up p q ends less none = record {
+pub ends_lent : (k : Option ℕ) (c : Client) (gain : Ino → ℕ) (r : Row Client) (up : List ToServer) (p q : List ToClient) → Ends c gain r → ((ino : Ino) → wants_write ino c.under ≡ true → 2 ≤ gain ino) → ((ino : Ino) (most : ℕ) → AllGive c.conn (gone_in c.under) ino most p → gain ino ≤ most) → answers c.conn q ≡ 0 → Lent k c.conn c.files c.under up p r.state (up ++ for_server r.sent) q
+ends_lent k c gain r up p q ends wants less none = record {
   covers = λ ino most was. rw ends.conn ((let here = ends.modes ino in let few = was.0 in let more = less ino most was.1 in omega (arith, here, few, more)), give_more c.conn (gone_in r.state.under) ino 0 most q (omega arith) (none_give c.conn (gone_in r.state.under) ino q none));
   drops = λ j ino any was. inl (subst (λ (l : List ToServer). list_any (is_drop j ino) l ≡ true) (append-nil up) (subst (λ (l : List ToServer). list_any (is_drop j ino) (up ++ l) ≡ true) ends.none any));
   lets = lets_none r.state.conn r.state.under (up ++ for_server r.sent) ends.under;
   frees = frees_none r.state.files r.state.under ends.under;
   grants = rw ends.conn (none_grants c.conn r.state.under q none);
+  writers = λ j is ino before. writes_as c.files r.state.files c.under r.state.under up (for_server r.sent) j ino (λ two. inl (let here = ends.modes ino in omega (arith, here, two))) (λ was. inl (let here = ends.modes ino in let more = wants ino was in omega (arith, here, more))) before;
+  says = rw ends.conn (none_say c.conn (gone_in r.state.under) r.state.files q none);
 }
 
 -- a request is sent
@@ -192,13 +265,15 @@ gone_free files Idle ino frees is = absurd (true≢false (sym is))
 gone_free files (AtStore number entry file head) ino frees is = absurd (true≢false (sym is))
 gone_free files (Open number tid text asked gone) ino frees is = frees.0 ino is
 
-pub asks_lent : (c : Client) (r : Row Client) (up : List ToServer) (p q : List ToClient) → AsksNow c r → Frees c.files c.under → answers c.conn q ≡ 0 → Lent c.conn c.files c.under up p r.state (up ++ for_server r.sent) q
-asks_lent c r up p q a frees none = record {
+pub asks_lent : (k : Option ℕ) (c : Client) (r : Row Client) (up : List ToServer) (p q : List ToClient) → AsksNow c r → WantsStill c r → Frees c.files c.under → answers c.conn q ≡ 0 → Lent k c.conn c.files c.under up p r.state (up ++ for_server r.sent) q
+asks_lent k c r up p q a wants frees none = record {
   covers = λ ino most was. rw (a.conn, a.files) (was.0, give_more c.conn (gone_in r.state.under) ino 0 most q (omega arith) (none_give c.conn (gone_in r.state.under) ino q none));
   drops = λ j ino any was. by_place j ino (drop_either j ino up (drop_list c.conn a.before ++ Ask c.conn a.tid a.asked ∷ []) (subst (λ (l : List ToServer). list_any (is_drop j ino) (up ++ l) ≡ true) a.sent any));
   lets = rw (a.conn, a.under, a.sent) (subst (AllLet c.conn a.asked []) (append_assoc up (drop_list c.conn a.before) (Ask c.conn a.tid a.asked ∷ [])) (let_ask c.conn a.tid a.asked [] (up ++ drop_list c.conn a.before)));
   frees = rw (a.under, a.files) (λ ino is. absurd (true≢false (sym is)), a.free);
   grants = rw a.conn (none_grants c.conn r.state.under q none);
+  writers = λ j is ino before. writes_as c.files r.state.files c.under r.state.under up (for_server r.sent) j ino (λ two. inl (subst (λ (files : HeldFiles). 2 ≤ has ino files) (sym a.files) two)) (λ was. inr (wants ino was)) before;
+  says = rw a.conn (none_say c.conn (gone_in r.state.under) r.state.files q none);
 }
   where
     dropped : (j : ℕ) (ino : Ino) (o : Option Ino) → IfSome o (λ x. is_gone x (gone_in c.under) ≡ true) → list_any (is_drop j ino) (drop_list c.conn o ++ Ask c.conn a.tid a.asked ∷ []) ≡ true → has ino c.files ≡ 0
@@ -247,13 +322,20 @@ again_frees files Idle frees = tt
 again_frees files (AtStore number entry ino head) frees = tt
 again_frees files (Open number tid text asked gone) frees = (λ ino is. absurd (true≢false (sym is)), free_again files gone asked frees.1)
 
-pub returns_lent : (c : Client) (r : Row Client) (o : Offer) (k : ℕ) (up : List ToServer) (p q : List ToClient) → o.conn ≡ c.conn → Up o k up → Returns c r → Frees c.files c.under → answers (c.conn + 1) q ≡ 0 → Lent c.conn c.files c.under up p r.state (up ++ for_server r.sent) q
-returns_lent c r o k up p q same is back frees none = record {
+again_wants : (ino : Ino) (under : Under) → wants_write ino (sent_again under) ≡ wants_write ino under
+again_wants ino Idle = refl
+again_wants ino (AtStore number entry file head) = refl
+again_wants ino (Open number tid text asked gone) = refl
+
+pub returns_lent : (known : Option ℕ) (c : Client) (r : Row Client) (o : Offer) (k : ℕ) (up : List ToServer) (p q : List ToClient) → o.conn ≡ c.conn → Up o k up → Returns c r → Frees c.files c.under → answers (c.conn + 1) q ≡ 0 → Lent known c.conn c.files c.under up p r.state (up ++ for_server r.sent) q
+returns_lent known c r o k up p q same is back frees none = record {
   covers = λ ino most was. rw (back.conn, back.files) (was.0, give_more (c.conn + 1) (gone_in r.state.under) ino 0 most q (omega arith) (none_give (c.conn + 1) (gone_in r.state.under) ino q none));
   drops = λ j ino any was. inl (there j ino (drop_either j ino up (m ∷ []) (subst (λ (l : List ToServer). list_any (is_drop j ino) (up ++ l) ≡ true) back.says.3 any)));
   lets = rw (back.conn, back.under, back.says.3) (subst (λ (j : ℕ). Lets (j + 1) (sent_again c.under) (up ++ m ∷ [])) same (again_lets o k c.under up m (λ j ino. (refl, refl)) is));
   frees = rw (back.under, back.files) (again_frees c.files c.under frees);
   grants = rw back.conn (none_grants (c.conn + 1) r.state.under q none);
+  writers = λ j known_as ino before. writes_as c.files r.state.files c.under r.state.under up (for_server r.sent) j ino (λ two. inl (subst (λ (files : HeldFiles). 2 ≤ has ino files) (sym back.files) two)) (λ was. inr (ap (wants_write ino) back.under ∙ again_wants ino c.under ∙ was)) before;
+  says = rw back.conn (none_say (c.conn + 1) (gone_in r.state.under) r.state.files q none);
 }
   where
     m : ToServer
@@ -364,13 +446,6 @@ under_nothing conn files (AtStore number entry file head) ino x p is frees one g
 under_nothing conn files (Open number tid text asked gone) ino x p is frees one grants none all = all_nothing conn files number tid text asked gone ino x p is frees.1 one grants all
 
 -- what was let go is remembered
-or_right : (a b : Bool) → b ≡ true → (a || b) ≡ true
-or_right true b is = refl
-or_right false b is = is
-
-or_left : (a b : Bool) → a ≡ true → (a || b) ≡ true
-or_left true b is = refl
-or_left false b is = absurd (true≢false (sym is))
 
 let_grow : (conn : ℕ) (asked : Request) (gone : List Ino) (ino : Ino) (up : List ToServer) → AllLet conn asked gone up → AllLet conn asked (ino ∷ gone) up
 let_grow conn asked gone ino [] all = tt
@@ -449,15 +524,41 @@ frees_let_go files (Open number tid text asked gone) ino once some frees = ((λ 
     by_place y (inl is) = none_without y ino files once is
     by_place y (inr is) = let few = less_without y ino files once in let zero = frees.0 y is in omega (arith, few, zero)
 
-pub let_go_lent : (c : Client) (r : Row Client) (up : List ToServer) (p : List ToClient) → LetsGo c r → Distinct c.files → Lets c.conn c.under up → Frees c.files c.under → AllGrants c.conn c.under p → (open_request c.under ≡ None → answers c.conn p ≡ 0) → Lent c.conn c.files c.under up p r.state (up ++ for_server r.sent) p
-let_go_lent c r up p go once lets frees grants none = record {
+still_wants : (x ino : Ino) (under : Under) → wants_write x (with_let_go ino under) ≡ wants_write x under
+still_wants x ino Idle = refl
+still_wants x ino (AtStore number entry file head) = refl
+still_wants x ino (Open number tid text asked gone) = refl
+
+say_let_go : (conn : ℕ) (files : HeldFiles) (ino : Ino) (under : Under) (p : List ToClient) → (open_request under ≡ None → answers conn p ≡ 0) → AllSay conn (gone_in under) files p → AllSay conn (gone_in (with_let_go ino under)) (without ino files) p
+say_let_go conn files ino Idle p none says = none_say conn [] (without ino files) p (none refl)
+say_let_go conn files ino (AtStore number entry file head) p none says = none_say conn [] (without ino files) p (none refl)
+say_let_go conn files ino (Open number tid text asked gone) p none says = say_go conn gone (ino ∷ gone) files (without ino files) p (λ x left. let parts = or_false (is_ino x ino) (is_gone x gone) left in (parts.1, has_other x ino files parts.0)) says
+
+pub let_go_lent : (k : Option ℕ) (c : Client) (r : Row Client) (up : List ToServer) (p : List ToClient) → LetsGo c r → ((j : ℕ) → k ≡ Some j → j ≡ c.conn) → Distinct c.files → Lets c.conn c.under up → Frees c.files c.under → AllGrants c.conn c.under p → AllSay c.conn (gone_in c.under) c.files p → (open_request c.under ≡ None → answers c.conn p ≡ 0) → Lent k c.conn c.files c.under up p r.state (up ++ for_server r.sent) p
+let_go_lent k c r up p go known once lets frees grants says none = record {
   covers = λ x most was. rw (go.conn, go.under, go.files) ((let few = less_without x go.ino c.files once in let before = was.0 in omega (arith, few, before)), give_let_go c.conn go.ino c.under x most p was.1);
   drops = λ j x any was. by_place j x was (drop_either j x up (for_server r.sent) any);
   lets = rw (go.conn, go.under) (lets_let_go c.conn c.files c.under go.ino up (for_server r.sent) frees go.says lets);
   frees = rw (go.under, go.files) (frees_let_go c.files c.under go.ino once (said_held c.conn c.files go.ino (for_server r.sent) go.says) frees);
   grants = rw (go.conn, go.under) (grants_let_go c.conn go.ino c.under p grants);
+  writers = λ j is x before. writes_as c.files r.state.files c.under r.state.under up (for_server r.sent) j x (λ two. leaves j is x two go.says) (λ wants. inr (ap (wants_write x) go.under ∙ still_wants x go.ino c.under ∙ wants)) before;
+  says = rw (go.conn, go.under, go.files) (say_let_go c.conn c.files go.ino c.under p none says);
 }
   where
+    leaves : (j : ℕ) → k ≡ Some j → (x : Ino) → 2 ≤ has x c.files → LetSaid c.conn c.files go.ino (for_server r.sent) → (2 ≤ has x r.state.files) ⊎ (list_any (is_release j x) (for_server r.sent) ≡ true)
+    leaves j is x two said = by_file (is_ino x go.ino) refl said
+      where
+        itself : (c.conn == j) ≡ true
+        itself = let same = known j is in grind (arith, nat_tests, same)
+
+        by_file : (b : Bool) → is_ino x go.ino ≡ b → LetSaid c.conn c.files go.ino (for_server r.sent) → (2 ≤ has x r.state.files) ⊎ (list_any (is_release j x) (for_server r.sent) ≡ true)
+        by_file false other said = inl (let same = ap (has x) go.files ∙ has_other x go.ino c.files other in omega (arith, same, two))
+        by_file true at (inl said) = let same = has_same x go.ino c.files at in let one = said.0 in absurd (omega (arith, same, one, two))
+        by_file true at (inr said) = inr (ap (list_any (is_release j x)) said.1.3 ∙ or_left (c.conn == j && (said.1.0.release && is_ino x said.1.0.ino)) false (all_three itself said.1.1 (subst (λ (y : Ino). is_ino x y ≡ true) (sym said.1.2) at)))
+          where
+            all_three : {a b d : Bool} → a ≡ true → b ≡ true → d ≡ true → (a && (b && d)) ≡ true
+            all_three one two three = rw (one, two, three) refl
+
     now : (j : ℕ) (x : Ino) → Covered c.conn (gone_in c.under) c.files p x 1 → LetSaid c.conn c.files go.ino (for_server r.sent) → list_any (is_drop j x) (for_server r.sent) ≡ true → Covered c.conn (gone_in (with_let_go go.ino c.under)) (without go.ino c.files) p x 0
     now j x was (inl said) any = by_test (c.conn == j) (is_ino x go.ino) refl (subst (λ (l : List ToServer). list_any (is_drop j x) l ≡ true) said.1 any)
       where

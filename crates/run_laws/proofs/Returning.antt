@@ -33,7 +33,7 @@ use Rattle.run_laws.proofs.Asked.{old_answered}
 use Rattle.run_laws.proofs.Bounding.{NoRise, fall_act, BoundAt, Bounded, buffer_rest}
 use Rattle.run_laws.proofs.Counted.{last_take, last_new}
 use Rattle.run_laws.proofs.Covering.{Owns, Whole, Fine, both_fit, by_whole, Taken, other_file}
-use Rattle.run_laws.specs.Tenures.{Distinct, AllReleased}
+use Rattle.run_laws.specs.Tenures.{Distinct, AllReleased, gone_in}
 use Rattle.run_laws.proofs.Files.{not_held, file_same}
 use Rattle.run_laws.proofs.Giving.{MyFit, silent_may, silent_after, sharing_more, letting_send, calm_letting, NotGiving}
 use Rattle.run_laws.proofs.Granting.{treat_my}
@@ -42,11 +42,11 @@ use Rattle.run_laws.proofs.Link.{behind_most}
 use Rattle.run_laws.proofs.Linked.{more_mail, hello}
 use Rattle.run_laws.proofs.Numbering.{acts_append, flush_is}
 use Rattle.run_laws.proofs.Once.{hand_of}
-use Rattle.run_laws.proofs.Parting.{none_give, none_grants}
+use Rattle.run_laws.proofs.Parting.{none_give, none_grants, none_say}
 use Rattle.run_laws.proofs.Requested.{Asking, asking, requested}
 use Rattle.run_laws.proofs.Ruled.{IsFlushing, flushing_back, ruled_treat}
 use Rattle.run_laws.proofs.Shares.{rank, rank_in, has, share, shares, give_more, or_none, shares_end, shares_filter, shares_others, shares_same}
-use Rattle.run_laws.proofs.Sharing.{gone_in, is_drop, Lets, Covered, CoverBy, SharesAt, Sharing, Letting}
+use Rattle.run_laws.proofs.Sharing.{is_drop, Lets, Covered, CoverBy, SharesAt, Sharing, Letting}
 use Rattle.run_laws.proofs.Taking.{Fits, Flushes, ruled, connect_taken}
 use Rattle.run_laws.proofs.ViewActs.{AnyOf, any_of}
 use Rattle.run_laws.proofs.Views.{Server's}
@@ -402,6 +402,8 @@ own_connect T n c conn said flushes asked up down s once clear was popped =
       lets = lets_tail c.conn c.under (Connect conn said flushes asked) up was.sharing.lets;
       frees = was.sharing.frees;
       grants = none_grants c.conn c.under (down ++ mail_of n now.mail) none;
+      writers = λ ino two. inl (let e = table ino in omega (arith, e, two));
+      says = none_say c.conn (gone_in c.under) c.files (down ++ mail_of n now.mail) none;
     }
 
     itself : number_of ((n, conn) ∷ now.current) n ≡ Some conn
@@ -415,7 +417,7 @@ own_connect T n c conn said flushes asked up down s once clear was popped =
     After p = SharesAt c.conn c.files c.under up (Some conn) p (λ ino. shares n ino now.holders)
 
     with_hello : (b : Bool) → After ((down ++ mail_of n now.mail) ++ cond b (hello (connected now n conn) n conn ∷ []) [])
-    with_hello true = sharing_more c.conn c.files c.under up (Some conn) (down ++ mail_of n now.mail) (λ ino. shares n ino now.holders) (hello (connected now n conn) n conn) (silent_may c.conn c.under up (Some conn) (hello (connected now n conn) n conn) (λ ino. shares n ino now.holders) tt) before
+    with_hello true = sharing_more c.conn c.files c.under up (Some conn) (down ++ mail_of n now.mail) (λ ino. shares n ino now.holders) (hello (connected now n conn) n conn) (silent_may c.conn c.files c.under up (Some conn) (hello (connected now n conn) n conn) (λ ino. shares n ino now.holders) tt) before
     with_hello false = subst After (sym (append-nil (down ++ mail_of n now.mail))) before
 
     sharing_next : Sharing n c up down next

@@ -5,14 +5,20 @@ use Rattle.std.proofs.Math.Seq.{take-length}
 use Rattle.std.specs.Prelude.{◌==◌, ◌&&◌, nat_lt, nat_le, is_some}
 use Rattle.std.specs.List.{list_all}
 use Rattle.snap_ids.specs.declared.id.Ino.{Ino}
+use Rattle.snap_ids.specs.declared.values.Mode.{Mode}
+use Rattle.snap_ids.specs.declared.values.Mode.TheVariants.{Read, Write}
+use Rattle.std.proofs.lemmas.Bool.Decides.{nat_tests}
 use Rattle.plain_types.specs.declared.entry.Entry.{Entry}
 use Rattle.plain_types.specs.declared.message.Claim.{Claim}
 use Rattle.plain_types.specs.declared.message.FlushMsg.{FlushMsg}
 use Rattle.plain_types.specs.declared.message.Message.TheVariants as message
 use Rattle.plain_types.specs.declared.message.ToClient.{ToClient}
+use Rattle.plain_types.specs.declared.message.ToClient.TheVariants.{Reply, Grant}
 use Rattle.plain_types.specs.declared.message.ToServer.{ToServer}
 use Rattle.plain_types.specs.declared.message.ToServer.TheVariants.{Connect, Ask, Flush, DropRead, Purged, Deleted}
 use Rattle.plain_types.specs.declared.request.Request.{Request}
+use Rattle.plain_types.specs.declared.request.Request.TheVariants as request
+use Rattle.held_files.specs.Files.{is_ino, is_write}
 use Rattle.plain_journal.specs.Table.{last_flush}
 use Rattle.step_table.specs.Messages.{to_server_fits}
 use Rattle.step_table.specs.Row.{Row}
@@ -23,18 +29,21 @@ use Rattle.step_table.specs.Requests.{treat, is_operation}
 use Rattle.step_table.specs.Flushes.{knows_file, knows_asked, knows_brought, on_flush as flush_rule, on_drop, asked_by, brought, take_in, take_in_brought, connected, come_back, may_connect, treat_brought}
 use Rattle.step_table.specs.Background.{turn}
 use Rattle.step_table.specs.ServerRows.{ask, back, connect_with, drops, on_take, on_report, on_commit, on_restart, on_tend, left_with, restarts, reported}
-use Rattle.step_table.specs.ClientState.{Client, open_request}
+use Rattle.step_table.specs.ClientState.{Client, Under, Idle, Open, AtStore, open_request}
 use Rattle.step_table.specs.ClientLines.{on_op, on_flush}
 use Rattle.step_table.specs.ClientTakes.{on_told, on_stored}
 use Rattle.step_table.specs.World.{to_server as for_server}
-use Rattle.run_laws.specs.Links.{View, mail_of, offer, Link}
+use Rattle.run_laws.specs.Links.{View, mail_of, offer, Link, Same, Number}
 use Rattle.run_laws.specs.Requests.{answers, Requested}
 use Rattle.run_laws.proofs.Acts.{Fit, acts_keep, row_keeps, turn_keeps, commit_keeps, restart_keeps, connect_keeps, take_flush, take_drop, take_purged, take_deleted}
 use Rattle.run_laws.proofs.Asked.{old_answered}
 use Rattle.run_laws.proofs.Bounding.{BoundAt, Bounded, Rising}
 use Rattle.run_laws.proofs.Counted.{last_take, last_longer}
 use Rattle.run_laws.proofs.Covering.{Owns, Whole, Fine, both_fit, by_whole, hands_owns, Taken, popped_with, own_ask, own_drop, own_flush}
-use Rattle.run_laws.specs.Tenures.{Distinct, AllReleased}
+use Rattle.run_laws.specs.Answered.{asks_capability}
+use Rattle.run_laws.specs.Tenures.{Distinct, AllReleased, gone_in, asks_write, wants_write}
+use Rattle.run_laws.proofs.Answering.{NoReplyToCap}
+use Rattle.run_laws.proofs.Buffered.{AllThat}
 use Rattle.run_laws.proofs.Files.{distinct_without}
 use Rattle.run_laws.proofs.Giving.{MyFit, send_sharing, letting_send}
 use Rattle.run_laws.proofs.Granting.{treat_my, reported_my, restarts_my, turn_my, flush_other, drop_other, back_other}
@@ -42,8 +51,8 @@ use Rattle.run_laws.proofs.Growing.{room, take_take}
 use Rattle.run_laws.proofs.Holds.{Stays, Sends, op_stays, flush_sends, told_takes, stored_stays}
 use Rattle.run_laws.proofs.Known.{Known, known_more, from_front}
 use Rattle.run_laws.proofs.Knowing.{Knows, ruled_fit, flushing_fit, left_knows, durable_knows, knows_cap, take_in_knows, welcome_knows, BroughtCap, brought_cap, brought_more, grown_all, row_if, and_true}
-use Rattle.run_laws.proofs.Lending.{Quiet, Ends, AsksNow, Returns, LetsGo, Begun, Opens, nothing, Closes, gain_of, IsOwn, ToldLends, op_opens, flush_lends, stored_closes, told_lends}
-use Rattle.run_laws.proofs.Link.{now_flows, link_old}
+use Rattle.run_laws.proofs.Lending.{Quiet, Ends, AsksNow, Returns, LetsGo, Begun, Opens, nothing, Closes, gain_of, WantsStill, IsOwn, ToldLends, op_opens, flush_lends, stored_closes, told_lends}
+use Rattle.run_laws.proofs.Link.{flowing, now_flows, link_old}
 use Rattle.run_laws.proofs.Linked.{more_mail, hello}
 use Rattle.run_laws.proofs.Once.{hand_of}
 use Rattle.run_laws.proofs.Parting.{Lent, same_less, tail_less, shares_lent, quiet_lent, ends_lent, asks_lent, returns_lent, let_go_lent}
@@ -51,8 +60,8 @@ use Rattle.run_laws.proofs.Releasing.{KeepsReleased, released_more, after_more, 
 use Rattle.run_laws.proofs.Requested.{Asking, asking, requested, none_open, answered_all, flows_none}
 use Rattle.run_laws.proofs.Returning.{Clear, own_connect}
 use Rattle.run_laws.proofs.Ruled.{CapAt, ruled_treat, ruled_drop, ruled_reported, ruled_restarts, flushing_flush, flushing_back}
-use Rattle.run_laws.proofs.Shares.{has, shares, give_front, give_more}
-use Rattle.run_laws.proofs.Sharing.{gone_in, AllGrants, DownAfter, Covered, CoverBy, SharesAt, Sharing, Letting}
+use Rattle.run_laws.proofs.Shares.{rank, has, shares, give_front, give_more, both_true}
+use Rattle.run_laws.proofs.Sharing.{IsAsked, GrantAt, AllSay, AllGrants, DownAfter, Covered, CoverBy, SharesAt, Sharing, Letting}
 use Rattle.run_laws.proofs.Taking.{All, Flushes, Fits, ruled, flushed, same_way, turn_fit, welcomed_other}
 use Rattle.run_laws.proofs.Taking.{durable as flushes_durable, survives as flushes_survive}
 use Rattle.run_laws.proofs.ViewActs.{AnyOf, any_of}
@@ -62,9 +71,13 @@ use Rattle.run_laws.proofs.Views.{Client's, Server's, GivenByRows}
 abbrev pub Sharer : View
 Sharer n c up down s = Distinct c.files × (Sharing n c up down s × Letting n c up down s)
 
+-- no reply is on its way to a request for a capability
+abbrev pub NoReplies : View
+NoReplies n c up down s = AllThat (NoReplyToCap c.conn (open_request c.under)) down
+
 -- what other layers keep
 abbrev pub Grounds : View
-Grounds n c up down s = All n c up down s × (Requested n c up down s × OneWriter s.holders)
+Grounds n c up down s = All n c up down s × (Requested n c up down s × (OneWriter s.holders × NoReplies n c up down s))
 
 abbrev pub Before : (ℕ → Ino → ℕ) → View
 Before T n c up down s = Grounds n c up down s × (Sharer n c up down s × (Clear n c up down s × Bounded T n c up down s))
@@ -79,18 +92,18 @@ whole_of : (T : ℕ → Ino → ℕ) (n : ℕ) (c : Client) (up : List ToServer)
 whole_of T n c up down s b = ((b.0.0.0.1.0, b.0.0.1), (b.0.1.0, (b.1.0.1, inr b.1.1.1)))
 
 taken_of : (T : ℕ → Ino → ℕ) (n : ℕ) (c : Client) (m : ToServer) (up : List ToServer) (down : List ToClient) (s : Server) → Before T n c (m ∷ up) down s → Taken T n c m up down s
-taken_of T n c m up down s b = record { asking = (b.0.0.0.0, b.0.1.0); knows = b.0.0.0.1.0; flushes = b.0.0.1; sharing = b.1.0.1.0; letting = b.1.0.1.1; bounded = b.1.1.1; one = b.0.1.1 }
+taken_of T n c m up down s b = record { asking = (b.0.0.0.0, b.0.1.0); knows = b.0.0.0.1.0; flushes = b.0.0.1; sharing = b.1.0.1.0; letting = b.1.0.1.1; bounded = b.1.1.1; one = b.0.1.1.0 }
 
 -- The rows of the server.
 own : (T : ℕ → Ino → ℕ) (n : ℕ) (c : Client) (m : ToServer) (up : List ToServer) (down : List ToClient) (s : Server) → Before T n c (m ∷ up) down s → Server's (Owns T) n c up down (on_take s n m)
 own T n c (Connect conn said flushes asked) up down s b = let was = taken_of T n c (Connect conn said flushes asked) up down s b in
-    own_connect T n c conn said flushes asked up down s b.1.0.0 b.1.1.0 was (popped_with T n c (Connect conn said flushes asked) up down s was (same_way n c (Connect conn said flushes asked) up down s (λ k. refl) was.flushes))
+    own_connect T n c conn said flushes asked up down s b.1.0.0 b.1.1.0 was (popped_with T n c (Connect conn said flushes asked) up down s was (λ j is ino. refl) (same_way n c (Connect conn said flushes asked) up down s (λ k. refl) was.flushes))
 own T n c (Ask conn tid asked) up down s b = own_ask T n c conn tid asked up down s (taken_of T n c (Ask conn tid asked) up down s b)
 own T n c (Flush conn f) up down s b = let k = b.0.0.0.1 in
     own_flush T n c conn f up down s k.1.up.0.1 (from_front (λ (l : List Entry). Known l f.ino) (λ xs ys so. known_more xs ys f.ino so) s.durable s.entries k.1.up.0.0) (taken_of T n c (Flush conn f) up down s b)
 own T n c (DropRead conn ino) up down s b = own_drop T n c conn ino up down s (taken_of T n c (DropRead conn ino) up down s b)
-own T n c (Purged id) up down s b = let was = taken_of T n c (Purged id) up down s b in take_purged (by_whole T n c up down) s n id (popped_with T n c (Purged id) up down s was (same_way n c (Purged id) up down s (λ k. refl) was.flushes))
-own T n c (Deleted ino) up down s b = let was = taken_of T n c (Deleted ino) up down s b in take_deleted (by_whole T n c up down) s n ino (popped_with T n c (Deleted ino) up down s was (same_way n c (Deleted ino) up down s (λ k. refl) was.flushes))
+own T n c (Purged id) up down s b = let was = taken_of T n c (Purged id) up down s b in take_purged (by_whole T n c up down) s n id (popped_with T n c (Purged id) up down s was (λ j is ino. refl) (same_way n c (Purged id) up down s (λ k. refl) was.flushes))
+own T n c (Deleted ino) up down s b = let was = taken_of T n c (Deleted ino) up down s b in take_deleted (by_whole T n c up down) s n ino (popped_with T n c (Deleted ino) up down s was (λ j is ino. refl) (same_way n c (Deleted ino) up down s (λ k. refl) was.flushes))
 
 all_more : {X : Type 0} (p q : X → Bool) → ((x : X) → p x ≡ true → q x ≡ true) → (xs : List X) → list_all p xs ≡ true → list_all q xs ≡ true
 all_more p q more [] is = refl
@@ -230,7 +243,7 @@ left_whole T n c up down s k fits b = (
     requested.survives n c up down s k fits (asks_of T n c up down s b),
     (
       (
-        record { cover = tt; dropped = tt; lets = b.1.0.1.0.lets; frees = b.1.0.1.0.frees; grants = subst (AllGrants c.conn c.under) (sym (append-nil down)) (grants_front down b.1.0.1.0.grants) },
+        record { cover = tt; dropped = tt; lets = b.1.0.1.0.lets; frees = b.1.0.1.0.frees; grants = subst (AllGrants c.conn c.under) (sym (append-nil down)) (grants_front down b.1.0.1.0.grants); writers = tt; says = subst (AllSay c.conn (gone_in c.under) c.files) (sym (append-nil down)) (say_front down b.1.0.1.0.says) },
         record { held = λ ino. held ino (b.1.0.1.1.held ino); coming = after_more c.conn (gone_in c.under) c.unacked (last_flush (take s.durable s.entries) n) (last_flush (take (s.durable + k) (take (s.durable + k) s.entries)) n) less down b.1.0.1.1.coming; post = tt },
       ),
       inr (λ ino. (omega arith, subst (λ (p : List ToClient). Covered c.conn (gone_in c.under) c.files p ino (T n ino)) (sym (append-nil down)) (bound ino (number_of s.current n) b.1.0.1.0.cover (b.1.1.1 ino)))),
@@ -249,6 +262,10 @@ left_whole T n c up down s k fits b = (
     grants_front [] all = tt
     grants_front (m ∷ p) all = (all.0, grants_front p all.1)
 
+    say_front : (p : List ToClient) → AllSay c.conn (gone_in c.under) c.files (p ++ mail_of n s.mail) → AllSay c.conn (gone_in c.under) c.files p
+    say_front [] all = tt
+    say_front (m ∷ p) all = (all.0, say_front p all.1)
+
     bound : (ino : Ino) (o : Option ℕ) → CoverBy (Covered c.conn (gone_in c.under) c.files (down ++ mail_of n s.mail)) (λ x. shares n x s.holders) o → BoundAt o (shares n ino s.holders) (Covered c.conn (gone_in c.under) c.files (down ++ mail_of n s.mail) ino) (T n ino) → Covered c.conn (gone_in c.under) c.files down ino (T n ino)
     bound ino None cover most = (most.1.0, give_front c.conn (gone_in c.under) ino (T n ino) down (mail_of n s.mail) most.1.1)
     bound ino (Some j) cover most = ((let one = (cover ino).0 in omega (arith, one, most)), give_front c.conn (gone_in c.under) ino (T n ino) down (mail_of n s.mail) (give_more c.conn (gone_in c.under) ino (shares n ino s.holders) (T n ino) (down ++ mail_of n s.mail) most (cover ino).1))
@@ -257,8 +274,43 @@ turn_fine : (n : ℕ) (c : Client) (s : Server) (o : Option (List Act)) → IfSo
 turn_fine n c s None one two = tt
 turn_fine n c s (Some list) one two = both_fit (Fits n) (MyFit n c) list s one two
 
--- The rows of the client.
-after_lent : (T : ℕ → Ino → ℕ) (n : ℕ) (c : Client) (up : List ToServer) (down p : List ToClient) (s : Server) (r : Row Client) → Lent c.conn c.files c.under up p r.state (up ++ for_server r.sent) (down ++ mail_of n s.mail) → Letting n r.state (up ++ for_server r.sent) down s → Distinct r.state.files
+-- The rows of the client. What is open for Write is given for Write by its answer.
+wants_open : (ino : Ino) (under : Under) → open_request under ≡ None → wants_write ino under ≡ true → ⊥
+wants_open ino Idle none wants = true≢false (sym wants)
+wants_open ino (AtStore number entry file head) none wants = true≢false (sym wants)
+wants_open ino (Open number tid text asked gone) none wants = cc
+
+wants_cap : (ino : Ino) (under : Under) → IfSome (open_request under) (λ r. asks_capability r.1 ≡ false) → wants_write ino under ≡ true → ⊥
+wants_cap ino (Open number tid text (request.Cap file mode) gone) not_cap wants = true≢false not_cap
+wants_cap ino under not_cap wants = true≢false (sym wants)
+
+write_given : (x ino : Ino) (mode : Mode) (under : Under) → IsAsked under ino mode → wants_write x under ≡ true → (is_ino x ino ≡ true) × (rank mode ≡ 2)
+write_given x ino mode Idle asked wants = absurd asked
+write_given x ino mode (AtStore number entry file head) asked wants = absurd asked
+write_given x ino mode (Open number tid text wanted gone) asked wants = by_mode mode (both_true (is_ino x ino) (is_write mode) (sym (ap (asks_write x) asked) ∙ wants))
+  where
+    by_mode : (m : Mode) → (is_ino x ino ≡ true) × (is_write m ≡ true) → (is_ino x ino ≡ true) × (rank m ≡ 2)
+    by_mode Read parts = absurd (true≢false (sym parts.1))
+    by_mode Write parts = (parts.0, refl)
+
+write_gain : (c : Client) (m : ToClient) → IsOwn c m → NoReplyToCap c.conn (open_request c.under) m → GrantAt c.conn c.under m → (ino : Ino) → wants_write ino c.under ≡ true → 2 ≤ gain_of c m ino
+write_gain c (Reply conn tid st said) own_now not_cap grant ino wants = absurd (wants_cap ino c.under (not_cap (same own_now.0)) wants)
+  where
+    same : Number conn ≡ Number c.conn → (conn == c.conn) ≡ true
+    same is = let e : conn ≡ c.conn = cc in grind (arith, nat_tests, e)
+write_gain c (Grant conn tid st file mode size trace) own_now not_cap grant ino wants =
+    let given = write_given ino file mode c.under (grant (same own_now.0)) wants in by_tests (conn == c.conn) (is_ino ino file) (same own_now.0) given.0 given.1
+  where
+    same : Number conn ≡ Number c.conn → (conn == c.conn) ≡ true
+    same is = let e : conn ≡ c.conn = cc in grind (arith, nat_tests, e)
+
+    by_tests : (b d : Bool) → b ≡ true → d ≡ true → rank mode ≡ 2 → 2 ≤ cond (b && d) (rank mode) 0
+    by_tests true true one two is = omega (arith, is)
+    by_tests true false one two is = absurd (true≢false (sym two))
+    by_tests false d one two is = absurd (true≢false (sym one))
+write_gain c m own_now not_cap grant ino wants = let one = own_now.1 0 in absurd (omega (arith, one))
+
+after_lent : (T : ℕ → Ino → ℕ) (n : ℕ) (c : Client) (up : List ToServer) (down p : List ToClient) (s : Server) (r : Row Client) → Lent (number_of s.current n) c.conn c.files c.under up p r.state (up ++ for_server r.sent) (down ++ mail_of n s.mail) → Letting n r.state (up ++ for_server r.sent) down s → Distinct r.state.files
     → SharesAt c.conn c.files c.under up (number_of s.current n) p (λ ino. shares n ino s.holders) → ((ino : Ino) → BoundAt (number_of s.current n) (shares n ino s.holders) (Covered c.conn (gone_in c.under) c.files p ino) (T n ino)) → Client's (After T) n up down s r
 after_lent T n c up down p s r lent letting once was bounded = (
   (once, (shares_lent c.conn c.files c.under up p r.state (up ++ for_server r.sent) (down ++ mail_of n s.mail) (number_of s.current n) (λ ino. shares n ino s.holders) lent was, letting)),
@@ -275,26 +327,26 @@ both_some (Some x) P Q R go p q = go x p q
 
 quiet_after : (T : ℕ → Ino → ℕ) (n : ℕ) (c : Client) (up : List ToServer) (down : List ToClient) (s : Server) (r : Row Client) → Quiet c r → KeepsReleased c r → Before T n c up down s → Client's (After T) n up down s r
 quiet_after T n c up down s r quiet keeps b = let p = down ++ mail_of n s.mail in let sh = b.1.0.1.0 in let le = b.1.0.1.1 in
-    after_lent T n c up down p s r (quiet_lent c r up p p quiet (same_less c.conn p) sh.lets sh.frees sh.grants) (quiet_letting n c r down s.entries s.durable s.mail quiet keeps le.held le.coming le.post) (quiet.once b.1.0.0) sh b.1.1.1
+    after_lent T n c up down p s r (quiet_lent (number_of s.current n) c r up p p quiet (same_less c.conn p) sh.lets sh.frees sh.grants sh.says) (quiet_letting n c r down s.entries s.durable s.mail quiet keeps le.held le.coming le.post) (quiet.once b.1.0.0) sh b.1.1.1
 
 ends_after : (T : ℕ → Ino → ℕ) (n : ℕ) (c : Client) (up : List ToServer) (down : List ToClient) (s : Server) (r : Row Client) → open_request c.under ≡ None → Ends c nothing r → KeepsReleased c r → Before T n c up down s → Client's (After T) n up down s r
 ends_after T n c up down s r open_none ends keeps b = let p = down ++ mail_of n s.mail in let sh = b.1.0.1.0 in let le = b.1.0.1.1 in
     let none = (none_open n c up p s open_none b.0.1.0).answered in
-    after_lent T n c up down p s r (ends_lent c nothing r up p p ends (λ ino most all. omega arith) none) (ends_letting n c nothing r down s.entries s.durable s.mail ends keeps (λ ino. inl refl) none le.held le.coming le.post) (ends.once b.1.0.0) sh b.1.1.1
+    after_lent T n c up down p s r (ends_lent (number_of s.current n) c nothing r up p p ends (λ ino wants. absurd (wants_open ino c.under open_none wants)) (λ ino most all. omega arith) none) (ends_letting n c nothing r down s.entries s.durable s.mail ends keeps (λ ino. inl refl) none le.held le.coming le.post) (ends.once b.1.0.0) sh b.1.1.1
 
 asks_after : (T : ℕ → Ino → ℕ) (n : ℕ) (c : Client) (up : List ToServer) (down : List ToClient) (s : Server) (r : Row Client) → open_request c.under ≡ None → AsksNow c r → KeepsReleased c r → Before T n c up down s → Client's (After T) n up down s r
 asks_after T n c up down s r open_none a keeps b = let p = down ++ mail_of n s.mail in let sh = b.1.0.1.0 in let le = b.1.0.1.1 in
     let none = (none_open n c up p s open_none b.0.1.0).answered in
-    after_lent T n c up down p s r (asks_lent c r up p p a sh.frees none) (asks_letting n c r down s.entries s.durable s.mail a keeps none le.held le.coming le.post) (rw a.files b.1.0.0) sh b.1.1.1
+    after_lent T n c up down p s r (asks_lent (number_of s.current n) c r up p p a (λ ino wants. absurd (wants_open ino c.under open_none wants)) sh.frees none) (asks_letting n c r down s.entries s.durable s.mail a keeps none le.held le.coming le.post) (rw a.files b.1.0.0) sh b.1.1.1
 
 returns_after : (T : ℕ → Ino → ℕ) (n : ℕ) (c : Client) (up : List ToServer) (down : List ToClient) (s : Server) (r : Row Client) → Returns c r → KeepsReleased c r → Before T n c up down s → Client's (After T) n up down s r
 returns_after T n c up down s r back_now keeps b = let p = down ++ mail_of n s.mail in let sh = b.1.0.1.0 in let le = b.1.0.1.1 in let link = b.0.0.0.0.1 in
     let none = old_answered (c.conn + 1) p (link_old (offer c) up (number_of s.current n) p link) in
-    after_lent T n c up down p s r (returns_lent c r (offer c) link.base up p p refl link.up back_now sh.frees none) (returns_letting n c r down s.entries s.durable s.mail back_now keeps none le.held le.coming le.post) (rw back_now.files b.1.0.0) sh b.1.1.1
+    after_lent T n c up down p s r (returns_lent (number_of s.current n) c r (offer c) link.base up p p refl link.up back_now sh.frees none) (returns_letting n c r down s.entries s.durable s.mail back_now keeps none le.held le.coming le.post) (rw back_now.files b.1.0.0) sh b.1.1.1
 
-let_go_after : (T : ℕ → Ino → ℕ) (n : ℕ) (c : Client) (up : List ToServer) (down : List ToClient) (s : Server) (r : Row Client) → LetsGo c r → KeepsReleased c r → Before T n c up down s → Client's (After T) n up down s r
-let_go_after T n c up down s r go keeps b = let p = down ++ mail_of n s.mail in let sh = b.1.0.1.0 in let le = b.1.0.1.1 in
-    after_lent T n c up down p s r (let_go_lent c r up p go b.1.0.0 sh.lets sh.frees sh.grants (λ none. (none_open n c up p s none b.0.1.0).answered))
+let_go_after : (T : ℕ → Ino → ℕ) (n : ℕ) (c : Client) (up : List ToServer) (down : List ToClient) (s : Server) (r : Row Client) → c.frozen ≡ false → LetsGo c r → KeepsReleased c r → Before T n c up down s → Client's (After T) n up down s r
+let_go_after T n c up down s r free go keeps b = let p = down ++ mail_of n s.mail in let sh = b.1.0.1.0 in let le = b.1.0.1.1 in
+    after_lent T n c up down p s r (let_go_lent (number_of s.current n) c r up p go (λ j is. subst (Same c.conn) is (flowing (offer c) up (number_of s.current n) p free b.0.0.0.0.1).number) b.1.0.0 sh.lets sh.frees sh.grants sh.says (λ none. (none_open n c up p s none b.0.1.0).answered))
     (let_go_letting n c r down s.entries s.durable s.mail go keeps b.1.0.0 sh.frees sh.grants (λ none. (none_open n c up p s none b.0.1.0).answered) le.held le.coming le.post) (rw go.files (distinct_without go.ino c.files b.1.0.0)) sh b.1.1.1
 
 begun_after : (T : ℕ → Ino → ℕ) (n : ℕ) (c : Client) (up : List ToServer) (down : List ToClient) (s : Server) (r : Row Client) → open_request c.under ≡ None → Begun c r → KeepsReleased c r → Before T n c up down s → Client's (After T) n up down s r
@@ -307,9 +359,12 @@ op_after : (T : ℕ → Ino → ℕ) (n : ℕ) (c : Client) (up : List ToServer)
 op_after T n c up down s r (inl back_now) keeps b = returns_after T n c up down s r back_now keeps b
 op_after T n c up down s r (inr begun) keeps b = begun_after T n c up down s r begun.0 begun.1 keeps b
 
-flush_after : (T : ℕ → Ino → ℕ) (n : ℕ) (c : Client) (up : List ToServer) (down : List ToClient) (s : Server) (r : Row Client) → Quiet c r ⊎ LetsGo c r → KeepsReleased c r → Before T n c up down s → Client's (After T) n up down s r
-flush_after T n c up down s r (inl quiet) keeps b = quiet_after T n c up down s r quiet keeps b
-flush_after T n c up down s r (inr go) keeps b = let_go_after T n c up down s r go keeps b
+flush_after : (T : ℕ → Ino → ℕ) (n : ℕ) (c : Client) (up : List ToServer) (down : List ToClient) (s : Server) (r : Row Client) → (c.frozen ≡ false) × (Quiet c r ⊎ LetsGo c r) → KeepsReleased c r → Before T n c up down s → Client's (After T) n up down s r
+flush_after T n c up down s r sent keeps b = either sent.1
+  where
+    either : Quiet c r ⊎ LetsGo c r → Client's (After T) n up down s r
+    either (inl quiet) = quiet_after T n c up down s r quiet keeps b
+    either (inr go) = let_go_after T n c up down s r sent.0 go keeps b
 
 closes_after : (T : ℕ → Ino → ℕ) (n : ℕ) (c : Client) (up : List ToServer) (down : List ToClient) (s : Server) (r : Row Client) → Closes c r → KeepsReleased c r → Before T n c up down s → Client's (After T) n up down s r
 closes_after T n c up down s r (inl quiet) keeps b = quiet_after T n c up down s r quiet keeps b
@@ -334,20 +389,20 @@ told_after T n c up m down s r told keeps b = by_kind told
     none here = (answered_all n c up m q s here.1 (flows_none (offer c) up (number_of s.current n) (m ∷ q) link (now_flows (offer c) up (number_of s.current n) m q here.0 link).base) b.0.1.0).answered
 
     by_kind : ToldLends c m r → Client's (After T) n up down s r
-    by_kind (inl quiet) = after_lent T n c up down (m ∷ q) s r (quiet_lent c r up (m ∷ q) q quiet (tail_less c.conn m q) sh.lets sh.frees sh.grants) (quiet_letting n c r down s.entries s.durable s.mail quiet keeps le.held le.coming.1 le.post) (quiet.once b.1.0.0) sh b.1.1.1
+    by_kind (inl quiet) = after_lent T n c up down (m ∷ q) s r (quiet_lent (number_of s.current n) c r up (m ∷ q) q quiet (tail_less c.conn m q) sh.lets sh.frees sh.grants sh.says) (quiet_letting n c r down s.entries s.durable s.mail quiet keeps le.held le.coming.1 le.post) (quiet.once b.1.0.0) sh b.1.1.1
     by_kind (inr (inl here)) = by_answer here.0 here.1
       where
-        by_answer : IsOwn c m → Ends c (gain_of c m) r ⊎ AsksNow c r → Client's (After T) n up down s r
-        by_answer own_now (inl ends) = after_lent T n c up down (m ∷ q) s r (ends_lent c (gain_of c m) r up (m ∷ q) q ends (λ ino most all. all.0) (none own_now)) (ends_letting n c (gain_of c m) r down s.entries s.durable s.mail ends keeps (λ ino. le.coming.0 ino) (none own_now) le.held le.coming.1 le.post) (ends.once b.1.0.0) sh b.1.1.1
-        by_answer own_now (inr a) = after_lent T n c up down (m ∷ q) s r (asks_lent c r up (m ∷ q) q a sh.frees (none own_now)) (asks_letting n c r down s.entries s.durable s.mail a keeps (none own_now) le.held le.coming.1 le.post) (rw a.files b.1.0.0) sh b.1.1.1
+        by_answer : IsOwn c m → Ends c (gain_of c m) r ⊎ (AsksNow c r × WantsStill c r) → Client's (After T) n up down s r
+        by_answer own_now (inl ends) = after_lent T n c up down (m ∷ q) s r (ends_lent (number_of s.current n) c (gain_of c m) r up (m ∷ q) q ends (λ ino wants. write_gain c m own_now b.0.1.1.1.0 sh.grants.0 ino wants) (λ ino most all. all.0) (none own_now)) (ends_letting n c (gain_of c m) r down s.entries s.durable s.mail ends keeps (λ ino. le.coming.0 ino) (none own_now) le.held le.coming.1 le.post) (ends.once b.1.0.0) sh b.1.1.1
+        by_answer own_now (inr a) = after_lent T n c up down (m ∷ q) s r (asks_lent (number_of s.current n) c r up (m ∷ q) q a.0 a.1 sh.frees (none own_now)) (asks_letting n c r down s.entries s.durable s.mail a.0 keeps (none own_now) le.held le.coming.1 le.post) (rw a.0.files b.1.0.0) sh b.1.1.1
     by_kind (inr (inr back_now)) = let old = old_answered (c.conn + 1) q (link_old (offer c) up (number_of s.current n) (m ∷ q) link).1 in
-        after_lent T n c up down (m ∷ q) s r (returns_lent c r (offer c) link.base up (m ∷ q) q refl link.up back_now sh.frees old) (returns_letting n c r down s.entries s.durable s.mail back_now keeps old le.held le.coming.1 le.post) (rw back_now.files b.1.0.0) sh b.1.1.1
+        after_lent T n c up down (m ∷ q) s r (returns_lent (number_of s.current n) c r (offer c) link.base up (m ∷ q) q refl link.up back_now sh.frees old) (returns_letting n c r down s.entries s.durable s.mail back_now keeps old le.held le.coming.1 le.post) (rw back_now.files b.1.0.0) sh b.1.1.1
 
 pub sharers : (T : ℕ → Ino → ℕ) → GivenByRows (Before T) (After T)
 sharers T = record {
   weak = λ n c up down s b. (b.1.0, inr b.1.1.1);
   op = λ n c up down s b. both_some (on_op c) (λ r. (c.frozen ≡ false) × Opens c r) (Stays (take s.durable s.entries) c) (Client's (After T) n up down s) (λ r opens stays. op_after T n c up down s r opens.1 (stays_released (take s.durable s.entries) c r stays) b) (op_opens c c.lines) (op_stays (take s.durable s.entries) c c.lines b.0.0.0.1.1.holds);
-  flush = λ n c up down s b. both_some (on_flush c) (λ r. (c.frozen ≡ false) × (Quiet c r ⊎ LetsGo c r)) (λ r. (c.frozen ≡ false) × Sends (take s.durable s.entries) c r) (Client's (After T) n up down s) (λ r lends sends. flush_after T n c up down s r lends.1 (sends_released (take s.durable s.entries) c r sends.1) b) (flush_lends c b.1.0.0) (flush_sends (take s.durable s.entries) c b.0.0.0.1.1.holds);
+  flush = λ n c up down s b. both_some (on_flush c) (λ r. (c.frozen ≡ false) × (Quiet c r ⊎ LetsGo c r)) (λ r. (c.frozen ≡ false) × Sends (take s.durable s.entries) c r) (Client's (After T) n up down s) (λ r lends sends. flush_after T n c up down s r lends (sends_released (take s.durable s.entries) c r sends.1) b) (flush_lends c b.1.0.0) (flush_sends (take s.durable s.entries) c b.0.0.0.1.1.holds);
   told = λ n c up m down s b. told_after T n c up m down s (on_told c m) (told_lends c m b.1.0.1.0.frees) (takes_released (take s.durable s.entries) c m (on_told c m) (told_takes (take s.durable s.entries) c m b.0.0.0.1.1.down.0 b.0.0.0.1.1.holds)) b;
   stored = λ n c m up down s b. closes_after T n c up down s (on_stored c m) (stored_closes c m) (stays_released (take s.durable s.entries) c (on_stored c m) (stored_stays (take s.durable s.entries) c m b.0.0.0.1.1.holds)) b;
   own = λ n c m up down s b. to_after n c up down (on_take s n m) b.1.0.0 (own T n c m up down s b);

@@ -1,5 +1,5 @@
 -- In which mode a client holds a file: at the server, by its own list, and by what is on the way to it.
-use Rattle.std.proofs.Common.{◌≡◌, ◌≤◌, ℕ, ◌+◌, List, [], ◌∷◌, ◌++◌, map, Bool, true, false, true≢false, not, cond, filter, Option, None, Some, refl, sym, ap, ◌∙◌, arith}
+use Rattle.std.proofs.Common.{◌≡◌, ◌≤◌, ℕ, ◌+◌, List, [], ◌∷◌, ◌++◌, map, Bool, true, false, true≢false, not, cond, filter, Option, None, Some, refl, sym, ap, ◌∙◌, arith, ◌⊎◌, inl, inr}
 use Rattle.std.proofs.lemmas.Bool.Decides.{nat_tests}
 use Rattle.std.specs.Prelude.{◌==◌, ◌&&◌, ◌||◌, max}
 use Rattle.std.specs.List.{list_any}
@@ -13,7 +13,7 @@ use Rattle.plain_types.specs.declared.message.ToClient.{ToClient}
 use Rattle.plain_types.specs.declared.message.ToClient.TheVariants.{Reply, Grant}
 use Rattle.held_files.specs.Files.{HeldFile, HeldFiles, is_ino, file_of, is_write}
 use Rattle.plain_tree.specs.State.{same_ino}
-use Rattle.step_table.specs.ServerState.{Holder, is_holder}
+use Rattle.step_table.specs.ServerState.{Holder, is_holder, is_writer}
 use Rattle.step_table.specs.Acts.{raised}
 use Rattle.step_table.specs.Capabilities.{clash, OneWriter}
 use Rattle.run_laws.proofs.Holders.{or_false}
@@ -168,6 +168,76 @@ reader_shares n ino (h ∷ holders) one any = by_test (reader_shares n ino holde
     by_test go true is Read any = let own = beside_own n ino h holders is one.0 in omega (arith, own)
     by_test go true is Write any = let own = beside_own n ino h holders is one.0 in let rest = go any in absurd (omega (arith, own, rest))
     by_test go false is m any = let rest = go any in omega (arith, rest)
+
+-- no rank is above Write's, and a share of it is a writer's
+pub two_most : (n : ℕ) (ino : Ino) (holders : List Holder) → shares n ino holders ≤ 2
+two_most n ino [] = omega arith
+two_most n ino (h ∷ holders) = by_test (is_holder n ino h) h.mode (two_most n ino holders)
+  where
+    by_test : (b : Bool) (m : Mode) → shares n ino holders ≤ 2 → max (cond b (rank m) 0) (shares n ino holders) ≤ 2
+    by_test true Read few = omega (arith, few)
+    by_test true Write few = omega (arith, few)
+    by_test false m few = omega (arith, few)
+
+pub writer_two : (n : ℕ) (ino : Ino) (holders : List Holder) → list_any (is_writer n ino) holders ≡ true → 2 ≤ shares n ino holders
+writer_two n ino [] any = absurd (true≢false (sym any))
+writer_two n ino (h ∷ holders) any = by_test (is_holder n ino h) h.mode any (writer_two n ino holders)
+  where
+    by_test : (b : Bool) (m : Mode) → ((b && is_write m) || list_any (is_writer n ino) holders) ≡ true → (list_any (is_writer n ino) holders ≡ true → 2 ≤ shares n ino holders) → 2 ≤ max (cond b (rank m) 0) (shares n ino holders)
+    by_test true Write any go = omega arith
+    by_test true Read any go = let rest = go any in omega (arith, rest)
+    by_test false m any go = let rest = go any in omega (arith, rest)
+
+pub reader_one : (n : ℕ) (ino : Ino) (holders : List Holder) → list_any (is_writer n ino) holders ≡ false → shares n ino holders ≤ 1
+reader_one n ino [] none = omega arith
+reader_one n ino (h ∷ holders) none = by_test (is_holder n ino h) h.mode none (reader_one n ino holders)
+  where
+    by_test : (b : Bool) (m : Mode) → ((b && is_write m) || list_any (is_writer n ino) holders) ≡ false → (list_any (is_writer n ino) holders ≡ false → shares n ino holders ≤ 1) → max (cond b (rank m) 0) (shares n ino holders) ≤ 1
+    by_test true Write none go = absurd (true≢false none)
+    by_test true Read none go = let rest = go none in omega (arith, rest)
+    by_test false m none go = let rest = go none in omega (arith, rest)
+
+-- a file that was let go has no share
+pub shares_gone : (n : ℕ) (x ino : Ino) (holders : List Holder) → is_ino x ino ≡ true → shares n x (filter (λ h. not (is_holder n ino h)) holders) ≡ 0
+shares_gone n x ino [] is = refl
+shares_gone n x ino (h ∷ holders) is = by_test (is_holder n ino h) refl (shares_gone n x ino holders is)
+  where
+    file : same_ino h.ino x ≡ same_ino h.ino ino
+    file = grind (arith, nat_tests, is)
+
+    same : is_holder n x h ≡ is_holder n ino h
+    same = ap (λ (b : Bool). h.client == n && b) file
+
+    by_test : (b : Bool) → is_holder n ino h ≡ b → shares n x (filter (λ h. not (is_holder n ino h)) holders) ≡ 0 → shares n x (cond (not b) (h ∷ filter (λ h. not (is_holder n ino h)) holders) (filter (λ h. not (is_holder n ino h)) holders)) ≡ 0
+    by_test true at rest = rest
+    by_test false at rest = let none : share n x h ≡ 0 = ap (λ (b : Bool). cond b (rank h.mode) 0) (same ∙ at) in omega (arith, none, rest)
+
+-- who is raised, is, and others aren't
+pub raised_either : (n x : ℕ) (ino file : Ino) (upto : SnapId) (holders : List Holder) → 2 ≤ shares n ino (map (raised x file upto) holders) → (2 ≤ shares n ino holders) ⊎ (((x == n) ≡ true) × (is_ino ino file ≡ true))
+raised_either n x ino file upto [] two = inl two
+raised_either n x ino file upto (h ∷ holders) two = by_test (is_holder n ino h) refl (is_holder x file h) refl h.mode two (raised_either n x ino file upto holders)
+  where
+    Either : ℕ → Type 0
+    Either share = (2 ≤ share) ⊎ (((x == n) ≡ true) × (is_ino ino file ≡ true))
+
+    later : (before : ℕ) → Either (shares n ino holders) → Either (max before (shares n ino holders))
+    later before (inl two) = inl (omega (arith, two))
+    later before (inr is) = inr is
+
+    it_is : is_holder n ino h ≡ true → is_holder x file h ≡ true → ((x == n) ≡ true) × (is_ino ino file ≡ true)
+    it_is is at = let a = both_true (h.client == n) (same_ino h.ino ino) is in let b = both_true (h.client == x) (same_ino h.ino file) at in (same a.0 b.0, same_file_of a.1 b.1)
+      where
+        same : (h.client == n) ≡ true → (h.client == x) ≡ true → (x == n) ≡ true
+        same one two = grind (arith, nat_tests, one, two)
+
+        same_file_of : same_ino h.ino ino ≡ true → same_ino h.ino file ≡ true → is_ino ino file ≡ true
+        same_file_of one two = grind (arith, nat_tests, one, two)
+
+    by_test : (b : Bool) → is_holder n ino h ≡ b → (p : Bool) → is_holder x file h ≡ p → (m : Mode) → 2 ≤ max (cond b (rank (cond p Write m)) 0) (shares n ino (map (raised x file upto) holders)) → (2 ≤ shares n ino (map (raised x file upto) holders) → Either (shares n ino holders)) → Either (max (cond b (rank m) 0) (shares n ino holders))
+    by_test true is true at m two go = inr (it_is is at)
+    by_test true is false at Write two go = inl (omega arith)
+    by_test true is false at Read two go = later 1 (go (omega (arith, two)))
+    by_test false is p at m two go = later 0 (go (omega (arith, two)))
 
 -- a holder is raised to Write
 pub shares_raised : (n x : ℕ) (ino file : Ino) (upto : SnapId) (holders : List Holder) → shares n ino holders ≤ shares n ino (map (raised x file upto) holders)

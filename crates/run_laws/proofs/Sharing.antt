@@ -1,17 +1,19 @@
 -- What a client holds is covered by what the server's table says of it.
-use Rattle.std.proofs.Common.{◌≡◌, ◌≤◌, ℕ, List, [], ◌∷◌, ◌++◌, take, length, Bool, true, false, Option, None, Some, ◌⊎◌}
+use Rattle.std.proofs.Common.{◌≡◌, ◌≤◌, ℕ, List, [], ◌∷◌, ◌++◌, take, length, Bool, true, false, Option, None, Some, refl, ◌⊎◌}
 use Rattle.std.specs.Prelude.{◌==◌, ◌&&◌}
 use Rattle.std.specs.List.{list_any}
 use Rattle.snap_ids.specs.declared.id.Ino.{Ino}
 use Rattle.snap_ids.specs.declared.values.Mode.{Mode}
 use Rattle.snap_ids.specs.declared.values.Mode.TheVariants.{Read, Write}
+use Rattle.plain_types.specs.declared.answer.Answer.{Answer}
+use Rattle.plain_types.specs.declared.answer.Answer.TheVariants as answer
 use Rattle.plain_types.specs.declared.entry.Entry.{Entry}
 use Rattle.plain_types.specs.declared.history.Sent.{Sent}
 use Rattle.plain_types.specs.declared.message.FlushMsg.{FlushMsg}
 use Rattle.plain_types.specs.declared.message.ToClient.{ToClient}
-use Rattle.plain_types.specs.declared.message.ToClient.TheVariants.{Grant}
+use Rattle.plain_types.specs.declared.message.ToClient.TheVariants.{Reply, Grant}
 use Rattle.plain_types.specs.declared.message.ToServer.{ToServer}
-use Rattle.plain_types.specs.declared.message.ToServer.TheVariants.{Flush, DropRead}
+use Rattle.plain_types.specs.declared.message.ToServer.TheVariants.{DropRead}
 use Rattle.plain_types.specs.declared.request.Request.{Request}
 use Rattle.plain_types.specs.declared.request.Request.TheVariants as request
 use Rattle.plain_journal.specs.Table.{last_flush}
@@ -21,22 +23,10 @@ use Rattle.step_table.specs.ClientState.{Under, Open}
 use Rattle.run_laws.specs.Links.{View, mail_of}
 use Rattle.run_laws.specs.Requests.{asks}
 use Rattle.run_laws.specs.Stamps.{told_by}
-use Rattle.run_laws.specs.Tenures.{AllReleased}
+use Rattle.run_laws.specs.Tenures.{AllReleased, gone_in, is_gone, is_release, wants_write}
 use Rattle.run_laws.proofs.Shares.{has, shares, gives, AllGive}
 
--- the files that were let go since the open request was sent
-abbrev pub gone_in : Under → List Ino
-gone_in (Open number tid text asked let_go) = let_go
-gone_in under = []
-
-abbrev pub is_gone : Ino → List Ino → Bool
-is_gone ino gone = list_any (is_ino ino) gone
-
 -- a message of a connection lets a file go
-abbrev pub is_release : ℕ → Ino → ToServer → Bool
-is_release k ino (Flush conn f) = conn == k && (f.release && is_ino ino f.ino)
-is_release k ino m = false
-
 abbrev pub is_drop : ℕ → Ino → ToServer → Bool
 is_drop k ino (DropRead conn file) = conn == k && is_ino ino file
 is_drop k ino m = false
@@ -113,6 +103,37 @@ abbrev pub DroppedBy : (Ino → ℕ → Type 0) → List ToServer → (Ino → �
 DroppedBy C q table None = Unit {0}
 DroppedBy C q table (Some j) = (ino : Ino) → list_any (is_drop j ino) q ≡ true → table ino ≡ 1 → C ino 0
 
+-- an answer says whether a file is held for Write
+abbrev pub Says : ℕ → Bool → Type 0
+Says held true = 2 ≤ held
+Says held false = held ≤ 1
+
+abbrev pub SaysIn : List Ino → HeldFiles → Answer → Type 0
+SaysIn gone files (answer.FoundLive ino perm size write_held) = is_gone ino gone ≡ false → Says (has ino files) write_held
+SaysIn gone files said = Unit {0}
+
+abbrev pub SaysAt : ℕ → List Ino → HeldFiles → ToClient → Type 0
+SaysAt conn gone files (Reply k tid stamp said) = (k == conn) ≡ true → SaysIn gone files said
+SaysAt conn gone files m = Unit {0}
+
+abbrev pub AllSay : ℕ → List Ino → HeldFiles → List ToClient → Type 0
+AllSay conn gone files [] = Unit {0}
+AllSay conn gone files (m ∷ down) = SaysAt conn gone files m × AllSay conn gone files down
+
+-- a writer of the server's table writes the file, or its release is on the way, or it has asked for the file
+abbrev pub Writes : HeldFiles → Under → List ToServer → ℕ → Ino → Type 0
+Writes files under q j ino = (2 ≤ has ino files) ⊎ ((list_any (is_release j ino) q ≡ true) ⊎ (wants_write ino under ≡ true))
+
+abbrev pub WritersBy : HeldFiles → Under → List ToServer → (Ino → ℕ) → Option ℕ → Type 0
+WritersBy files under q table None = Unit {0}
+WritersBy files under q table (Some j) = (ino : Ino) → 2 ≤ table ino → Writes files under q j ino
+
+pub writers_go : (files new : HeldFiles) (under next : Under) (q rest : List ToServer) (table more : Ino → ℕ) (k : Option ℕ)
+    → ((j : ℕ) → k ≡ Some j → (ino : Ino) → 2 ≤ more ino → (2 ≤ table ino → Writes files under q j ino) → Writes new next rest j ino)
+    → WritersBy files under q table k → WritersBy new next rest more k
+writers_go files new under next q rest table more None go was = tt
+writers_go files new under next q rest table more (Some j) go was = λ ino two. go j refl ino two (was ino)
+
 -- Of one client: `k` is the server's number for it, `table` what the server's table says of its files.
 pub record SharesAt (conn : ℕ) (files : HeldFiles) (under : Under) (q : List ToServer) (k : Option ℕ) (p : List ToClient) (table : Ino → ℕ) : Type 0 where
   pub cover : CoverBy (Covered conn (gone_in under) files p) table k
@@ -120,6 +141,8 @@ pub record SharesAt (conn : ℕ) (files : HeldFiles) (under : Under) (q : List T
   pub lets : Lets conn under q
   pub frees : Frees files under
   pub grants : AllGrants conn under p
+  pub writers : WritersBy files under q table k
+  pub says : AllSay conn (gone_in under) files p
 
 abbrev pub Sharing : View
 Sharing n c up down s =

@@ -15,6 +15,7 @@ use Rattle.plain_journal.specs.Table.{last_effect}
 use Rattle.step_table.specs.Requests.{kept_for}
 use Rattle.step_table.specs.ServerState.{Server}
 use Rattle.step_table.specs.ClientState.{open_request}
+use Rattle.step_table.specs.ClientTakes.{is_success}
 use Rattle.run_laws.specs.Links.{View, mail_of}
 use Rattle.run_laws.specs.Requests.{IsTid, is_of, AllUpTo}
 
@@ -83,14 +84,20 @@ asks_change asked = true
 abbrev pub kept_of : ℕ → ℕ → List Entry → Option Answer
 kept_of n tid entries = kept_for tid (last_effect entries n)
 
+-- the request asks for a capability
+abbrev pub asks_capability : Request → Bool
+asks_capability (request.Cap ino mode) = true
+asks_capability asked = false
+
 abbrev pub is_refusal : Answer → Bool
 is_refusal (Refused refusal) = true
 is_refusal said = false
 
--- a request is answered with what is kept for it; where nothing is, one for a change is refused
+-- A request is answered with what is kept for it. Where nothing is, the answer is no success, a change is refused, and a
+-- request for a capability isn't answered so: it is granted.
 abbrev pub ByKept : Request → Option Answer → Answer → Type 0
 ByKept asked (Some kept) said = said ≡ kept
-ByKept asked None said = asks_change asked ≡ true → is_refusal said ≡ true
+ByKept asked None said = (is_success asked said ≡ false) × (asks_change asked ≡ true → is_refusal said ≡ true) × (asks_capability asked ≡ false)
 
 -- a reply of this connection is so, and its stamp counts the entry of which the answer is kept
 abbrev pub RepliesAsKept : ℕ → ℕ → ℕ × Request → List Entry → ToClient → Type 0
@@ -104,6 +111,6 @@ AllAsKept n conn r entries [] = Unit {0}
 AllAsKept n conn r entries (m ∷ down) = RepliesAsKept n conn r entries m × AllAsKept n conn r entries down
 
 -- A reply on the way to a client to its open request is the answer that the journal keeps for it. Where it keeps none, the
--- reply to a change is a refusal.
+-- reply says no success, one to a change is a refusal, and none is to a request for a capability.
 abbrev pub AsKept : View
 AsKept n c up down s = IfSome (open_request c.under) (λ r. AllAsKept n c.conn r s.entries (down ++ mail_of n s.mail))

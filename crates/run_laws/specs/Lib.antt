@@ -11,3 +11,4 @@ pub mod Requests
 pub mod Stamps
 pub mod Tables
 pub mod Tenures
+pub mod Told

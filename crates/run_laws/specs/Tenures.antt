@@ -1,5 +1,5 @@
 -- Which files are held: by what the clients count, by what is on its way to them, and by the server's table.
-use Rattle.std.specs.Prelude.{◌≡◌, ◌<◌, ◌≤◌, ℕ, Bool, false, true, ◌&&◌, ◌==◌, List, [], ◌∷◌, ◌++◌, take, Option, None, Some, IfSome, is_some}
+use Rattle.std.specs.Prelude.{◌≡◌, ◌<◌, ◌≤◌, ℕ, Bool, false, true, ◌&&◌, ◌==◌, List, [], ◌∷◌, ◌++◌, take, Option, None, Some, IfSome, is_some, ◌⊎◌}
 use Rattle.std.specs.List.{list_any}
 use Rattle.snap_ids.specs.declared.id.Ino.{Ino}
 use Rattle.snap_ids.specs.declared.values.Mode.{Mode}
@@ -12,12 +12,15 @@ use Rattle.plain_types.specs.declared.message.ToClient.{ToClient}
 use Rattle.plain_types.specs.declared.message.ToClient.TheVariants.{Reply, Grant}
 use Rattle.plain_types.specs.declared.request.Request.{Request}
 use Rattle.plain_types.specs.declared.request.Request.TheVariants.{Cap, Cat, Stat, Barrier}
+use Rattle.plain_types.specs.declared.message.ToServer.{ToServer}
+use Rattle.plain_types.specs.declared.message.ToServer.TheVariants.{Flush}
 use Rattle.plain_journal.specs.Entries.{state_after}
 use Rattle.plain_journal.specs.Legal.{is_made_file}
 use Rattle.plain_journal.specs.Table.{barrier, last_flush}
-use Rattle.held_files.specs.Files.{HeldFiles, is_ino, is_held, is_writer}
+use Rattle.held_files.specs.Files.{HeldFiles, is_ino, is_held, is_writer, is_write}
 use Rattle.step_table.specs.ServerState.{Asked, Holder, number_of, is_holder, is_writer as writes_at, all_connected}
 use Rattle.step_table.specs.Acts.{of_client}
+use Rattle.step_table.specs.ClientState.{Under, Open}
 use Rattle.run_laws.specs.Links.{View, mail_of}
 
 -- the entries made this file
@@ -119,6 +122,52 @@ abbrev pub TableCovers : View
 TableCovers n c up down s =
     IfSome (number_of s.current n) (λ k.
     HeldInTable n c.files s.holders × AllGrantsInTable n c.conn s.holders (down ++ mail_of n s.mail))
+
+-- the files that a client let go since its open request was sent
+abbrev pub gone_in : Under → List Ino
+gone_in (Open number tid text asked let_go) = let_go
+gone_in under = []
+
+abbrev pub is_gone : Ino → List Ino → Bool
+is_gone ino gone = list_any (is_ino ino) gone
+
+-- an answer says whether its client writes the file that it finds, where that wasn't let go
+abbrev pub SaysWriterIn : List Ino → HeldFiles → Answer → Type 0
+SaysWriterIn gone files (FoundLive ino perm size write_held) = is_gone ino gone ≡ false → write_held ≡ is_writer ino files
+SaysWriterIn gone files said = Unit {0}
+
+abbrev pub SaysWriterAt : ℕ → List Ino → HeldFiles → ToClient → Type 0
+SaysWriterAt conn gone files (Reply k tid stamp said) = (k == conn) ≡ true → SaysWriterIn gone files said
+SaysWriterAt conn gone files m = Unit {0}
+
+abbrev pub AllSayWriter : ℕ → List Ino → HeldFiles → List ToClient → Type 0
+AllSayWriter conn gone files [] = Unit {0}
+AllSayWriter conn gone files (m ∷ down) = SaysWriterAt conn gone files m × AllSayWriter conn gone files down
+
+-- Each answer of the connection that finds a file says whether the client writes it.
+abbrev pub SaysWriter : View
+SaysWriter n c up down s = AllSayWriter c.conn (gone_in c.under) c.files (down ++ mail_of n s.mail)
+
+-- a message of a connection releases a file
+abbrev pub is_release : ℕ → Ino → ToServer → Bool
+is_release k ino (Flush conn f) = conn == k && (f.release && is_ino ino f.ino)
+is_release k ino m = false
+
+-- what is asked, and what is open, is this file for Write
+abbrev pub asks_write : Ino → Request → Bool
+asks_write ino (Cap file mode) = is_ino ino file && is_write mode
+asks_write ino asked = false
+
+abbrev pub wants_write : Ino → Under → Bool
+wants_write ino (Open number tid text asked let_go) = asks_write ino asked
+wants_write ino under = false
+
+-- Where the server's table has a client as the writer of a file, the client writes it, or its release is on the way, or it
+-- has asked for it.
+abbrev pub WriterIsKnown : View
+WriterIsKnown n c up down s =
+    IfSome (number_of s.current n) (λ k. (ino : Ino) → list_any (writes_at n ino) s.holders ≡ true
+    → (is_writer ino c.files ≡ true) ⊎ ((list_any (is_release k ino) up ≡ true) ⊎ (wants_write ino c.under ≡ true)))
 
 -- the releases of a file among these are numbered up to this
 abbrev pub AllReleased : Ino → ℕ → List FlushMsg → Type 0

@@ -8,6 +8,7 @@ ghost use Rattle.run_laws.specs.Links.{EachClient};
 ghost use Rattle.run_laws.specs.Answered.{NotAbove, Undurable, AsAsked, AsKept};
 ghost use Rattle.run_laws.specs.OpenHandles.{HasOpen};
 ghost use Rattle.run_laws.specs.OpenLines.{OfItsLine};
+ghost use Rattle.run_laws.specs.Told.{AllTold};
 
 /// At each moment no effect of a client has a number above the last one that the client gave.
 pub fn effects_have_numbers_that_were_given()
@@ -27,8 +28,9 @@ pub fn an_effect_is_of_its_request()
 {}
 
 /// A reply on the way to a client to its open request is the answer that the journal keeps for that request, and its stamp
-/// counts the entry of the effect. Where the request has no effect, the reply to a change is a refusal. So a client never
-/// hears of a success that the journal doesn't have.
+/// counts the entry of the effect. Where the request has no effect, the reply says no success, one to a change is a refusal,
+/// and a request for a capability has no reply: it is granted. So a client never hears of a success that the journal doesn't
+/// have.
 pub fn a_reply_is_the_kept_answer()
     ensures { (script : Script) (history : List Event) → Legal history script → EachClient AsKept (world_after script history) }
 {}
@@ -43,4 +45,11 @@ pub fn a_capability_is_asked_for_by_a_line()
 /// for the effect of its open request, to which it hasn't taken the answer.
 pub fn a_client_has_open_what_the_journal_says()
     ensures { (script : Script) (history : List Event) → Legal history script → EachClient HasOpen (world_after script history) }
+{}
+
+/// How much a client was told: the replies to it that say `changed` are as many as its effects in durable entries and its
+/// changes of bytes together, less one where its open request has an effect that is durable: the answer to that it hasn't
+/// taken. So it was told of each of its changes once, and of none that can still be lost.
+pub fn a_client_is_told_of_each_change_once()
+    ensures { (script : Script) (history : List Event) → Legal history script → EachClient (AllTold history) (world_after script history) }
 {}

@@ -5,7 +5,7 @@ ghost use Rattle.plain_types.specs.declared.script.Script.{Script};
 ghost use Rattle.step_table.specs.Legal.{Legal};
 ghost use Rattle.run_laws.specs.Moments.{world_after};
 ghost use Rattle.run_laws.specs.Links.{EachClient};
-ghost use Rattle.run_laws.specs.Tenures.{HeldIsMade, HeldOnce, GivenIsMade, AllHoldMade, EachOnce, AllAskMade, HeldMayWait, TableCovers, HeldAfterRelease, SomeIsRecalled};
+ghost use Rattle.run_laws.specs.Tenures.{HeldIsMade, HeldOnce, GivenIsMade, AllHoldMade, EachOnce, AllAskMade, HeldMayWait, TableCovers, HeldAfterRelease, SomeIsRecalled, SaysWriter, WriterIsKnown};
 
 /// What a client holds, and what a message on its way to it gives it, is a file that the durable entries made: no restart
 /// unmakes a file that is held. A client holds a file once.
@@ -39,6 +39,19 @@ pub fn what_waits_may_wait()
 /// file is held or granted for Write.
 pub fn the_table_covers_what_is_held()
     ensures { (script : Script) (history : List Event) → Legal history script → EachClient TableCovers (world_after script history) }
+{}
+
+/// Who asks is told whether it writes: an answer on its way to a client, of its connection, that finds a live file says that
+/// the client holds the file for Write exactly where it does, unless the client let the file go since it sent its request.
+pub fn an_answer_says_whether_its_client_writes()
+    ensures { (script : Script) (history : List Event) → Legal history script → EachClient SaysWriter (world_after script history) }
+{}
+
+/// The server takes nobody for a writer without reason: where it has a connection of a client, and its table has the client
+/// with a file for Write, the client holds the file for Write, or a release of the file is on the way in that connection, or
+/// the client's open request is for the file for Write.
+pub fn who_writes_in_the_table_is_known()
+    ensures { (script : Script) (history : List Event) → Legal history script → EachClient WriterIsKnown (world_after script history) }
 {}
 
 /// A client holds a file again only when its release is durable: where it holds a file, all its earlier releases of the file

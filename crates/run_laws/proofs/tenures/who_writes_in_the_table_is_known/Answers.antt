@@ -1,0 +1,5 @@
+use Rattle.run_laws.proofs.Covers.{known_law}
+use Rattle.run_laws.proofs.tenures.who_writes_in_the_table_is_known.Goals as goal
+
+pub returns : goal.returns
+returns c script history legal = known_law script history
