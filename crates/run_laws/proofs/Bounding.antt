@@ -48,7 +48,7 @@ told_rest s t x told (Some j) rest = rest
 pub buffer_rest : (s t : Server) (e : Entry) → Rest s t → Rest s (buffer t e)
 buffer_rest s t e rest = notices_keep (Rest s) (λ u x inos so. told_rest s u x (Changed inos) (number_of u.current x) so) t.entries (up_to t.clients) (record t { entries = t.entries ++ e ∷ [] }) rest
 
-abbrev NotHolding : Act → Type 0
+abbrev pub NotHolding : Act → Type 0
 NotHolding (Hold h) = ⊥
 NotHolding (Raise x ino upto) = ⊥
 NotHolding (MarkRecalled x ino) = ⊥
@@ -57,7 +57,7 @@ NotHolding (LetGo x ino) = ⊥
 NotHolding (LetAllGo x) = ⊥
 NotHolding a = Unit {0}
 
-act_rest : (s : Server) (a : Act) → NotHolding a → Rest s (act s a)
+pub act_rest : (s : Server) (a : Act) → NotHolding a → Rest s (act s a)
 act_rest s (TellRecall x ino) is = told_rest s s x (WantedBack ino) (number_of s.current x) (refl, refl)
 act_rest s (TellAck x number) is = told_rest s s x (Acked number) (number_of s.current x) (refl, refl)
 act_rest s (AnswerIt said) is = by_hand s.hand

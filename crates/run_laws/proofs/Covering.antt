@@ -143,7 +143,7 @@ by_whole T n c up down = record {
 }
 
 -- a message less on the way
-or_second : (a b : Bool) → b ≡ true → (a || b) ≡ true
+pub or_second : (a b : Bool) → b ≡ true → (a || b) ≡ true
 or_second true b is = refl
 or_second false b is = is
 
@@ -200,7 +200,7 @@ own_ask T n c conn tid asked up down s was =
         ((take_in_knows s a cap was.knows, popped.0.1), (requested.asks n c conn tid asked up down s now was.asking, popped.1.1))
 
 -- a reader lets go
-current_number : (o : Option ℕ) (conn : ℕ) → is_number conn o ≡ true → o ≡ Some conn
+pub current_number : (o : Option ℕ) (conn : ℕ) → is_number conn o ≡ true → o ≡ Some conn
 current_number None conn is = absurd (true≢false (sym is))
 current_number (Some k) conn is = ap Some same
   where
@@ -277,7 +277,7 @@ covered_told n c down x most s y inos was = by_number (number_of s.current y)
 covered_buffer : (n : ℕ) (c : Client) (down : List ToClient) (x : Ino) (most : ℕ) (s : Server) (e : Entry) → Covered c.conn (gone_in c.under) c.files (down ++ mail_of n s.mail) x most → Covered c.conn (gone_in c.under) c.files (down ++ mail_of n (buffer s e).mail) x most
 covered_buffer n c down x most s e was = notices_keep (λ t. Covered c.conn (gone_in c.under) c.files (down ++ mail_of n t.mail) x most) (λ t y inos so. covered_told n c down x most t y inos so) s.entries (up_to s.clients) (record s { entries = s.entries ++ e ∷ [] }) was
 
-down_none : (conn : ℕ) (gone : List Ino) (kept : List FlushMsg) (last : ℕ) (x : Ino) → (AllReleased x last kept → ⊥) → (p : List ToClient) → DownAfter conn gone kept last p → AllGive conn gone x 0 p
+pub down_none : (conn : ℕ) (gone : List Ino) (kept : List FlushMsg) (last : ℕ) (x : Ino) → (AllReleased x last kept → ⊥) → (p : List ToClient) → DownAfter conn gone kept last p → AllGive conn gone x 0 p
 down_none conn gone kept last x never [] all = tt
 down_none conn gone kept last x never (m ∷ p) all = (either (all.0 x), down_none conn gone kept last x never p all.1)
   where
@@ -285,7 +285,7 @@ down_none conn gone kept last x never (m ∷ p) all = (either (all.0 x), down_no
     either (inl zero_now) = omega (arith, zero_now)
     either (inr all) = absurd (never all)
 
-mail_none : (n conn : ℕ) (gone : List Ino) (kept : List FlushMsg) (entries : List Entry) (x : Ino) → ((low : ℕ) → low ≤ last_flush entries n → AllReleased x low kept → ⊥) → Counted n 0 entries → (mail : List (ℕ × Sent)) → MailAfter n conn gone kept entries mail → AllGive conn gone x 0 (mail_of n mail)
+pub mail_none : (n conn : ℕ) (gone : List Ino) (kept : List FlushMsg) (entries : List Entry) (x : Ino) → ((low : ℕ) → low ≤ last_flush entries n → AllReleased x low kept → ⊥) → Counted n 0 entries → (mail : List (ℕ × Sent)) → MailAfter n conn gone kept entries mail → AllGive conn gone x 0 (mail_of n mail)
 mail_none n conn gone kept entries x never counted [] all = tt
 mail_none n conn gone kept entries x never counted (m ∷ mail) all = one m.1.to m.1.message all.1 (mail_none n conn gone kept entries x never counted mail all.2)
   where

@@ -35,7 +35,7 @@ share_any n ino (h ∷ holders) some = by_test (is_holder n ino h) some (share_a
     by_test true some go = refl
     by_test false some go = go (omega (arith, some))
 
-share_writes : (n : ℕ) (ino : Ino) (holders : List Holder) → 2 ≤ shares n ino holders → list_any (writes_at n ino) holders ≡ true
+pub share_writes : (n : ℕ) (ino : Ino) (holders : List Holder) → 2 ≤ shares n ino holders → list_any (writes_at n ino) holders ≡ true
 share_writes n ino [] two = absurd (omega (arith, two))
 share_writes n ino (h ∷ holders) two = by_test (is_holder n ino h) h.mode two (share_writes n ino holders)
   where

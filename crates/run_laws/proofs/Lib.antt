@@ -26,6 +26,7 @@ mod Kept
 mod Knowing
 mod Known
 mod Lasting
+mod Leaving
 mod Lending
 mod Link
 mod Linked

@@ -107,20 +107,20 @@ all_at p n (x ∷ l) all any = let parts = and_true (p x) (list_all p l) all in 
     by_test false is any here go = go any
 
 -- what other layers keep
-abbrev Base : View
+abbrev pub Base : View
 Base n c up down s = (All n c up down s × Asking n c up down s) × (Tables s × Placed n s)
 
 base_rows : KeptByRows Base
 base_rows = joined (joined rows_of_all (alone (rows_of_acts Asking asking (all_fit Asking)))) (alone (joined (served_rows {P = λ n s. Tables s} (λ n. tables_gives)) (alone (served_rows {P = Placed} placed_gives))))
 
 -- the ranks of two clients are 2 at most together
-record Pairs (w : World) : Type 0 where
+pub record Pairs (w : World) : Type 0 where
   pub most : ℕ → Ino → ℕ
   pub pair : (a b : ℕ) → (a == b) ≡ false → (ino : Ino) → most a ino + most b ino ≤ 2
   pub bounded : EachClient (Bounded most) w
   pub few : (n : ℕ) → client w.clients n ≡ None → Few n (most n) w.server
 
-record Holds (w : World) : Type 0 where
+pub record Holds (w : World) : Type 0 where
   pub base : EachClient Base w
   pub replied : EachClient Replied w
   pub tables : Tables w.server
@@ -140,7 +140,7 @@ share_most w h x ino = by_client (client w.clients x) refl (h.pairs.bounded x)
     by_client None is bounded = h.pairs.few x is ino
     by_client (Some c) is bounded = held_most (number_of w.server.current x) (shares x ino w.server.holders) _ (h.pairs.most x ino) (bounded ino)
 
-before_all : (w : World) (h : Holds w) → EachClient (Before h.pairs.most) w
+pub before_all : (w : World) (h : Holds w) → EachClient (Before h.pairs.most) w
 before_all w h n = found (client w.clients n) (h.base n) (h.replied n) (h.sharer n) (h.pairs.bounded n)
   where
     found : (o : Option Client) → IfSome o (λ c. Base n c (mine n w.up) (mine n w.down) w.server) → IfSome o (λ c. Replied n c (mine n w.up) (mine n w.down) w.server) → IfSome o (λ c. Sharer n c (mine n w.up) (mine n w.down) w.server) → IfSome o (λ c. Bounded h.pairs.most n c (mine n w.up) (mine n w.down) w.server) → IfSome o (λ c. Before h.pairs.most n c (mine n w.up) (mine n w.down) w.server)
@@ -156,7 +156,7 @@ before_all w h n = found (client w.clients n) (h.base n) (h.replied n) (h.sharer
             let two = has_most h.pairs.most n c (mine n w.up) (mine n w.down) w.server sharer.1.0 bounded ino in
             let both = h.pairs.pair x n other ino in omega (arith, one, two, both)
 
-next : (w : World) (step : Step) → Holds w → Holds (after_row w (row w step))
+pub next : (w : World) (step : Step) → Holds w → Holds (after_row w (row w step))
 next w step h = record { base = base; replied = step_keeps Replied replied_rows w step h.replied; tables = tables; nobody = no_client_step w step h.nobody; strange = λ n. strange_step n w step (h.strange n); sharer = each_part (After h.pairs.most) Sharer w2 (λ n c up down s a. a.0) after_all; pairs = by_test (all_connected w2.server) refl }
   where
     w2 : World
@@ -207,7 +207,7 @@ next w step h = record { base = base; replied = step_keeps Replied replied_rows 
     by_test true connected = record { most = now; pair = λ a b other ino. one_shares a b ino other w2.server.holders tables.0; bounded = bounded_now connected; few = λ n none ino. omega arith }
     by_test false not_all = record { most = h.pairs.most; pair = h.pairs.pair; bounded = bounded_still not_all; few = few_still not_all }
 
-first : (script : Script) → Holds (start script)
+pub first : (script : Script) → Holds (start script)
 first script = record {
   base = at_start Base script (λ n is. ((first_all script n is, ((tt, first_link (new_client n (script.clients + 1) (lines_of n script.lines)) _ refl is), first_requested n (new_client n (script.clients + 1) (lines_of n script.lines)) (start script).server refl refl refl refl refl refl refl)), ((tt, tt), placed_in n (up_to script.clients) is)));
   replied = at_start Replied script (first_replied script);
@@ -240,7 +240,7 @@ pub sharers_hold : (script : Script) (steps : List Step) → EachClient Sharer (
 sharers_hold script steps = (run (start script) steps (first script)).sharer
 
 -- what gives nothing isn't given
-not_given : (conn : ℕ) (gone : List Ino) (ino : Ino) (p : List ToClient) → AllGive conn gone ino 0 p → list_any (is_given conn gone ino) p ≡ false
+pub not_given : (conn : ℕ) (gone : List Ino) (ino : Ino) (p : List ToClient) → AllGive conn gone ino 0 p → list_any (is_given conn gone ino) p ≡ false
 not_given conn gone ino [] all = refl
 not_given conn gone ino (m ∷ p) all = or_none (is_given conn gone ino m) (list_any (is_given conn gone ino) p) (one m all.0) (not_given conn gone ino p all.1)
   where

@@ -169,6 +169,22 @@ WriterIsKnown n c up down s =
     IfSome (number_of s.current n) (λ k. (ino : Ino) → list_any (writes_at n ino) s.holders ≡ true
     → (is_writer ino c.files ≡ true) ⊎ ((list_any (is_release k ino) up ≡ true) ⊎ (wants_write ino c.under ≡ true)))
 
+-- a release on the way: the server's table has its client as the writer of the file, and no second release of the file comes
+-- behind it
+abbrev pub IsLeaving : ℕ → ℕ → List Holder → List ToServer → ToServer → Type 0
+IsLeaving n k holders behind m =
+    (ino : Ino) → is_release k ino m ≡ true
+    → (list_any (writes_at n ino) holders ≡ true) × (list_any (is_release k ino) behind ≡ false)
+
+abbrev pub AllLeaving : ℕ → ℕ → List Holder → List ToServer → Type 0
+AllLeaving n k holders [] = Unit {0}
+AllLeaving n k holders (m ∷ up) = IsLeaving n k holders up m × AllLeaving n k holders up
+
+-- Where the server has a connection of a client, each release on the way in it is of a file that the table has the client
+-- write, and a file has one release there at most.
+abbrev pub LeavesAsWriter : View
+LeavesAsWriter n c up down s = IfSome (number_of s.current n) (λ k. AllLeaving n k s.holders up)
+
 -- the releases of a file among these are numbered up to this
 abbrev pub AllReleased : Ino → ℕ → List FlushMsg → Type 0
 AllReleased ino last [] = Unit {0}
