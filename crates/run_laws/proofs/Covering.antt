@@ -32,6 +32,7 @@ use Rattle.run_laws.specs.Links.{View, mine, mail_of}
 use Rattle.run_laws.specs.Requests.{Requested}
 use Rattle.run_laws.specs.Stamps.{told_by}
 use Rattle.run_laws.specs.Tenures.{AllReleased, gone_in, is_release}
+use Rattle.run_laws.specs.LetGo.{is_drop, Lets}
 use Rattle.run_laws.proofs.Acts.{Fit, AnyAct, any_fit, notices_keep, KeptByActs, acts_keep, row_keeps}
 use Rattle.run_laws.proofs.Asked.{requests_act}
 use Rattle.run_laws.proofs.Bounding.{my_rise, BoundAt, Bounded, Rising, rising_act, fall_act}
@@ -47,7 +48,7 @@ use Rattle.run_laws.proofs.Once.{hand_of}
 use Rattle.run_laws.proofs.Requested.{Asking, requested}
 use Rattle.run_laws.proofs.Ruled.{CapAt, ruled_treat}
 use Rattle.run_laws.proofs.Shares.{has, shares, gives, AllGive, give_append, both_true, reader_shares, shares_others, shares_same, shares_filter, shares_gone}
-use Rattle.run_laws.proofs.Sharing.{is_drop, Lets, GivesAfter, DownAfter, ToldAfter, MailAfter, Covered, DroppedBy, SharesAt, Writes, writers_go, Sharing, Letting}
+use Rattle.run_laws.proofs.Sharing.{GivesAfter, DownAfter, ToldAfter, MailAfter, Covered, DroppedBy, SharesAt, Writes, writers_go, Sharing, Letting}
 use Rattle.run_laws.proofs.Releasing.{released_more, released_filter}
 use Rattle.run_laws.proofs.Taking.{Way, Flushes, Fits, ruled, is_number, first_of, after_held, flush_taken, flush_knows, flush_passed, same_way}
 use Rattle.run_laws.proofs.Taking.{by_acts as flushing_by}

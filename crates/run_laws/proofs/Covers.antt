@@ -98,7 +98,7 @@ held_writer ino files two = by_test (is_writer ino files) refl
     by_test true is = refl
     by_test false is = let few = has_reader ino files is in absurd (omega (arith, two, few))
 
-held_reader : (ino : Ino) (files : HeldFiles) → has ino files ≤ 1 → is_writer ino files ≡ false
+pub held_reader : (ino : Ino) (files : HeldFiles) → has ino files ≤ 1 → is_writer ino files ≡ false
 held_reader ino files few = by_test (is_writer ino files) refl
   where
     by_test : (b : Bool) → is_writer ino files ≡ b → b ≡ false

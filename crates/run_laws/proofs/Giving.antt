@@ -37,13 +37,14 @@ use Rattle.run_laws.specs.Links.{mail_of}
 use Rattle.run_laws.specs.Requests.{IsIt, AllOf, count, asks, answers, Requested}
 use Rattle.run_laws.specs.Stamps.{told_by}
 use Rattle.run_laws.specs.Tenures.{AllReleased, gone_in, is_gone, is_release, wants_write}
+use Rattle.run_laws.specs.LetGo.{is_drop, is_cap, AllLet, Lets, IsAsked, GrantAt, AllGrants}
 use Rattle.run_laws.proofs.Acts.{notices_keep}
 use Rattle.run_laws.proofs.Holders.{or_false}
 use Rattle.run_laws.proofs.Lending.{gone_same}
 use Rattle.run_laws.proofs.Linked.{more_mail}
 use Rattle.run_laws.proofs.Parting.{either_true}
 use Rattle.run_laws.proofs.Shares.{rank, has, share, shares, found_in, gives, give_append, give_more, both_true, or_none, shares_end, shares_same, shares_others, shares_raised, raised_either}
-use Rattle.run_laws.proofs.Sharing.{is_drop, is_cap, AllLet, Lets, CapFree, Frees, IsAsked, GrantAt, AllGrants, GivesAfter, DownAfter, ToldAfter, MailAfter, Covered, CoverBy, DroppedBy, SharesAt, Says, SaysIn, SaysAt, AllSay, Writes, WritersBy, writers_go, Sharing, Letting}
+use Rattle.run_laws.proofs.Sharing.{CapFree, Frees, GivesAfter, DownAfter, ToldAfter, MailAfter, Covered, CoverBy, DroppedBy, SharesAt, Says, SaysIn, SaysAt, AllSay, Writes, WritersBy, writers_go, Sharing, Letting}
 use Rattle.run_laws.proofs.Taking.{Way}
 
 -- the request in hand is the open one, and none is on the way

@@ -47,12 +47,12 @@ use Rattle.step_table.specs.ClientState.{Client, Under, Idle, Open, AtStore, ope
 use Rattle.step_table.specs.ServerRows.{reported, restarts, roll_back_from}
 use Rattle.run_laws.specs.Requests.{IsIt, AllOf}
 use Rattle.run_laws.specs.Tenures.{asks_write, wants_write}
+use Rattle.run_laws.specs.LetGo.{IsAsked}
 use Rattle.run_laws.proofs.Acts.{Fit, fit_append}
 use Rattle.run_laws.proofs.Effects.{last_from}
 use Rattle.run_laws.proofs.Giving.{MyFit, FoundFit}
 use Rattle.run_laws.proofs.Once.{HandOf, first_client}
 use Rattle.run_laws.proofs.Shares.{rank, share, shares, shares_end, both_true, two_most, writer_two, reader_one}
-use Rattle.run_laws.proofs.Sharing.{IsAsked}
 
 -- an answer that finds no live file
 abbrev pub NoFind : Answer → Type 0

@@ -15,6 +15,7 @@ mod Effects
 mod Entered
 mod Files
 mod Fitting
+mod Freed
 mod Gives
 mod Giving
 mod Granting

@@ -25,6 +25,7 @@ use Rattle.step_table.specs.ClientLines.{with_let_go}
 use Rattle.step_table.specs.World.{to_server as for_server}
 use Rattle.run_laws.specs.Links.{Offer, Up, Behind}
 use Rattle.run_laws.specs.Requests.{answers}
+use Rattle.run_laws.specs.LetGo.{is_drop, is_cap, AllLet, Lets, IsAsked, GrantAt, AllGrants}
 use Rattle.run_laws.proofs.Asked.{asks_append}
 use Rattle.run_laws.specs.Tenures.{Distinct, gone_in, is_gone, is_release, wants_write}
 use Rattle.run_laws.proofs.Files.{has_none, has_other, file_same}
@@ -32,7 +33,7 @@ use Rattle.run_laws.proofs.Lending.{AllPlain, Quiet, NotOpen, Ends, AsksNow, dro
 use Rattle.run_laws.proofs.Holders.{or_false}
 use Rattle.run_laws.proofs.Link.{up_most}
 use Rattle.run_laws.proofs.Shares.{rank, rank_in, has, found_in, gives, AllGive, give_more, or_none}
-use Rattle.run_laws.proofs.Sharing.{is_drop, is_cap, AllLet, Lets, CapFree, Frees, IsAsked, GrantAt, AllGrants, Covered, CoverBy, DroppedBy, SharesAt, Says, SaysIn, SaysAt, AllSay, Writes, writers_go}
+use Rattle.run_laws.proofs.Sharing.{CapFree, Frees, Covered, CoverBy, DroppedBy, SharesAt, Says, SaysIn, SaysAt, AllSay, Writes, writers_go}
 
 or_right : (a b : Bool) → b ≡ true → (a || b) ≡ true
 or_right true b is = refl

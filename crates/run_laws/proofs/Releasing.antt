@@ -22,11 +22,12 @@ use Rattle.run_laws.specs.Links.{mine, mail_of}
 use Rattle.run_laws.specs.Requests.{answers}
 use Rattle.run_laws.specs.Stamps.{told_by}
 use Rattle.run_laws.specs.Tenures.{Distinct, AllReleased, gone_in, is_release}
+use Rattle.run_laws.specs.LetGo.{GrantAt, AllGrants}
 use Rattle.run_laws.proofs.Holds.{Stays, Sends, Takes}
 use Rattle.run_laws.proofs.Lending.{AllPlain, Quiet, Ends, AsksNow, Returns, LetsGo, drop_list}
 use Rattle.run_laws.proofs.Parting.{no_release, none_give, gives_gone, let_nothing, less_without, none_without, LetSaid}
 use Rattle.run_laws.proofs.Shares.{has, gives, AllGive, or_none}
-use Rattle.run_laws.proofs.Sharing.{Frees, GrantAt, AllGrants, GivesAfter, DownAfter, ToldAfter, MailAfter, LettingAt}
+use Rattle.run_laws.proofs.Sharing.{Frees, GivesAfter, DownAfter, ToldAfter, MailAfter, LettingAt}
 
 -- releases
 pub released_more : (ino : Ino) (few many : ℕ) (kept : List FlushMsg) → few ≤ many → AllReleased ino few kept → AllReleased ino many kept

@@ -28,6 +28,7 @@ use Rattle.step_table.specs.ServerRows.{back, connect_with, drops, on_take}
 use Rattle.step_table.specs.ClientState.{Client, Under, Idle, Open, AtStore, open_request}
 use Rattle.run_laws.specs.Links.{View, mail_of, offer, Offer, Behind, AllOld, Flowing, Asking as AskingLink, Hailing, Link}
 use Rattle.run_laws.specs.Requests.{IsIt, answers}
+use Rattle.run_laws.specs.LetGo.{is_drop, Lets}
 use Rattle.run_laws.proofs.Acts.{Fit, notices_keep, acts_keep, connect_keeps}
 use Rattle.run_laws.proofs.Asked.{old_answered}
 use Rattle.run_laws.proofs.Bounding.{NoRise, fall_act, BoundAt, Bounded, buffer_rest}
@@ -46,7 +47,7 @@ use Rattle.run_laws.proofs.Parting.{none_give, none_grants, none_say}
 use Rattle.run_laws.proofs.Requested.{Asking, asking, requested}
 use Rattle.run_laws.proofs.Ruled.{IsFlushing, flushing_back, ruled_treat}
 use Rattle.run_laws.proofs.Shares.{rank, rank_in, has, share, shares, give_more, or_none, shares_end, shares_filter, shares_others, shares_same}
-use Rattle.run_laws.proofs.Sharing.{is_drop, Lets, Covered, CoverBy, SharesAt, Sharing, Letting}
+use Rattle.run_laws.proofs.Sharing.{Covered, CoverBy, SharesAt, Sharing, Letting}
 use Rattle.run_laws.proofs.Taking.{Fits, Flushes, ruled, connect_taken}
 use Rattle.run_laws.proofs.ViewActs.{AnyOf, any_of}
 use Rattle.run_laws.proofs.Views.{Server's}

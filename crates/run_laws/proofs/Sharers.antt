@@ -35,6 +35,7 @@ use Rattle.step_table.specs.ClientTakes.{on_told, on_stored}
 use Rattle.step_table.specs.World.{to_server as for_server}
 use Rattle.run_laws.specs.Links.{View, mail_of, offer, Link, Same, Number}
 use Rattle.run_laws.specs.Requests.{answers, Requested}
+use Rattle.run_laws.specs.LetGo.{IsAsked, GrantAt, AllGrants}
 use Rattle.run_laws.proofs.Acts.{Fit, acts_keep, row_keeps, turn_keeps, commit_keeps, restart_keeps, connect_keeps, take_flush, take_drop, take_purged, take_deleted}
 use Rattle.run_laws.proofs.Asked.{old_answered}
 use Rattle.run_laws.proofs.Bounding.{BoundAt, Bounded, Rising}
@@ -61,7 +62,7 @@ use Rattle.run_laws.proofs.Requested.{Asking, asking, requested, none_open, answ
 use Rattle.run_laws.proofs.Returning.{Clear, own_connect}
 use Rattle.run_laws.proofs.Ruled.{CapAt, ruled_treat, ruled_drop, ruled_reported, ruled_restarts, flushing_flush, flushing_back}
 use Rattle.run_laws.proofs.Shares.{rank, has, shares, give_front, give_more, both_true}
-use Rattle.run_laws.proofs.Sharing.{IsAsked, GrantAt, AllSay, AllGrants, DownAfter, Covered, CoverBy, SharesAt, Sharing, Letting}
+use Rattle.run_laws.proofs.Sharing.{AllSay, DownAfter, Covered, CoverBy, SharesAt, Sharing, Letting}
 use Rattle.run_laws.proofs.Taking.{All, Flushes, Fits, ruled, flushed, same_way, turn_fit, welcomed_other}
 use Rattle.run_laws.proofs.Taking.{durable as flushes_durable, survives as flushes_survive}
 use Rattle.run_laws.proofs.ViewActs.{AnyOf, any_of}

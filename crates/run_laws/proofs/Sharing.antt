@@ -1,9 +1,8 @@
 -- What a client holds is covered by what the server's table says of it.
 use Rattle.std.proofs.Common.{◌≡◌, ◌≤◌, ℕ, List, [], ◌∷◌, ◌++◌, take, length, Bool, true, false, Option, None, Some, refl, ◌⊎◌}
-use Rattle.std.specs.Prelude.{◌==◌, ◌&&◌}
+use Rattle.std.specs.Prelude.{◌==◌}
 use Rattle.std.specs.List.{list_any}
 use Rattle.snap_ids.specs.declared.id.Ino.{Ino}
-use Rattle.snap_ids.specs.declared.values.Mode.{Mode}
 use Rattle.snap_ids.specs.declared.values.Mode.TheVariants.{Read, Write}
 use Rattle.plain_types.specs.declared.answer.Answer.{Answer}
 use Rattle.plain_types.specs.declared.answer.Answer.TheVariants as answer
@@ -11,43 +10,19 @@ use Rattle.plain_types.specs.declared.entry.Entry.{Entry}
 use Rattle.plain_types.specs.declared.history.Sent.{Sent}
 use Rattle.plain_types.specs.declared.message.FlushMsg.{FlushMsg}
 use Rattle.plain_types.specs.declared.message.ToClient.{ToClient}
-use Rattle.plain_types.specs.declared.message.ToClient.TheVariants.{Reply, Grant}
+use Rattle.plain_types.specs.declared.message.ToClient.TheVariants.{Reply}
 use Rattle.plain_types.specs.declared.message.ToServer.{ToServer}
-use Rattle.plain_types.specs.declared.message.ToServer.TheVariants.{DropRead}
 use Rattle.plain_types.specs.declared.request.Request.{Request}
 use Rattle.plain_types.specs.declared.request.Request.TheVariants as request
 use Rattle.plain_journal.specs.Table.{last_flush}
-use Rattle.held_files.specs.Files.{HeldFiles, is_ino}
+use Rattle.held_files.specs.Files.{HeldFiles}
 use Rattle.step_table.specs.ServerState.{number_of}
 use Rattle.step_table.specs.ClientState.{Under, Open}
 use Rattle.run_laws.specs.Links.{View, mail_of}
-use Rattle.run_laws.specs.Requests.{asks}
 use Rattle.run_laws.specs.Stamps.{told_by}
 use Rattle.run_laws.specs.Tenures.{AllReleased, gone_in, is_gone, is_release, wants_write}
+use Rattle.run_laws.specs.LetGo.{is_drop, Lets, AllGrants}
 use Rattle.run_laws.proofs.Shares.{has, shares, gives, AllGive}
-
--- a message of a connection lets a file go
-abbrev pub is_drop : ℕ → Ino → ToServer → Bool
-is_drop k ino (DropRead conn file) = conn == k && is_ino ino file
-is_drop k ino m = false
-
--- a request is for a capability of this file
-abbrev pub is_cap : Ino → Request → Bool
-is_cap ino (request.Cap file mode) = is_ino ino file
-is_cap ino asked = false
-
--- What was let go behind the last sending of the open request is remembered; a release isn't of the file that it asks for.
-abbrev pub IsLet : ℕ → Request → List Ino → ToServer → Type 0
-IsLet conn asked gone m =
-    (ino : Ino) → (is_drop conn ino m ≡ true → is_gone ino gone ≡ true) × (is_release conn ino m ≡ true → (is_gone ino gone ≡ true) × (is_cap ino asked ≡ false))
-
-abbrev pub AllLet : ℕ → Request → List Ino → List ToServer → Type 0
-AllLet conn asked gone [] = Unit {0}
-AllLet conn asked gone (m ∷ up) = (asks up ≡ 0 → IsLet conn asked gone m) × AllLet conn asked gone up
-
-abbrev pub Lets : ℕ → Under → List ToServer → Type 0
-Lets conn (Open number tid text asked gone) up = AllLet conn asked gone up
-Lets conn under up = Unit {0}
 
 -- What was let go isn't held, and a capability is asked for that isn't held.
 abbrev pub CapFree : HeldFiles → List Ino → Request → Type 0
@@ -58,19 +33,6 @@ CapFree files gone asked = Unit {0}
 abbrev pub Frees : HeldFiles → Under → Type 0
 Frees files (Open number tid text asked gone) = ((ino : Ino) → is_gone ino gone ≡ true → has ino files ≡ 0) × CapFree files gone asked
 Frees files under = Unit {0}
-
--- what is granted is what was asked for
-abbrev pub IsAsked : Under → Ino → Mode → Type 0
-IsAsked (Open number tid text asked gone) ino mode = asked ≡ request.Cap ino mode
-IsAsked under ino mode = ⊥
-
-abbrev pub GrantAt : ℕ → Under → ToClient → Type 0
-GrantAt conn under (Grant k tid stamp ino mode size trace) = (k == conn) ≡ true → IsAsked under ino mode
-GrantAt conn under m = Unit {0}
-
-abbrev pub AllGrants : ℕ → Under → List ToClient → Type 0
-AllGrants conn under [] = Unit {0}
-AllGrants conn under (m ∷ down) = GrantAt conn under m × AllGrants conn under down
 
 -- where a file is held or given, its releases are entered
 abbrev pub GivesAfter : ℕ → List Ino → List FlushMsg → ℕ → ToClient → Type 0

@@ -1,6 +1,7 @@
 pub mod Answered
 pub mod FlushNumbers
 pub mod Holding
+pub mod LetGo
 pub mod Links
 pub mod Moments
 pub mod OpenHandles

@@ -5,6 +5,7 @@ ghost use Rattle.plain_types.specs.declared.script.Script.{Script};
 ghost use Rattle.step_table.specs.Legal.{Legal};
 ghost use Rattle.run_laws.specs.Moments.{world_after};
 ghost use Rattle.run_laws.specs.Links.{EachClient};
+ghost use Rattle.run_laws.specs.LetGo.{LetGoIsRemembered, LetGoIsFree, DroppedIsFree, GrantIsAsked};
 ghost use Rattle.run_laws.specs.Tenures.{HeldIsMade, HeldOnce, GivenIsMade, AllHoldMade, EachOnce, AllAskMade, HeldMayWait, TableCovers, HeldAfterRelease, SomeIsRecalled, SaysWriter, WriterIsKnown, LeavesAsWriter};
 
 /// What a client holds, and what a message on its way to it gives it, is a file that the durable entries made: no restart
@@ -64,6 +65,32 @@ pub fn what_is_released_is_written_in_the_table()
 /// that aren't acknowledged are among the durable entries.
 pub fn a_file_is_held_again_after_its_release()
     ensures { (script : Script) (history : List Event) → Legal history script → EachClient HeldAfterRelease (world_after script history) }
+{}
+
+/// A client remembers what it lets go while it waits for an answer: each file that is let go by a message on its way, of its
+/// connection and behind the last sending of its open request, is among those that the client let go since it sent that
+/// request. Where the file is released, the request asks for no capability of it.
+pub fn what_is_let_go_is_remembered()
+    ensures { (script : Script) (history : List Event) → Legal history script → EachClient LetGoIsRemembered (world_after script history) }
+{}
+
+/// What a client let go since it sent its open request it doesn't hold. And it asks for what it hasn't got: a capability to
+/// read a file that it neither holds nor has let go since, or one to write a file that it doesn't hold for Write.
+pub fn what_was_let_go_is_not_held()
+    ensures { (script : Script) (history : List Event) → Legal history script → EachClient LetGoIsFree (world_after script history) }
+{}
+
+/// Where the server's table has a client as a reader of a file, and a message in the server's connection lets that file go,
+/// the client doesn't hold the file, and no message of its connection, sent or not, gives it. So the server may take the
+/// file from it.
+pub fn what_a_reader_lets_go_is_free()
+    ensures { (script : Script) (history : List Event) → Legal history script → EachClient DroppedIsFree (world_after script history) }
+{}
+
+/// A Grant on its way to a client, of its connection, sent or not, is of the file and the mode that the client's open request
+/// asks for.
+pub fn a_grant_is_what_was_asked_for()
+    ensures { (script : Script) (history : List Event) → Legal history script → EachClient GrantIsAsked (world_after script history) }
 {}
 
 /// Nobody waits for a file for nothing: where all clients are connected and the server holds a request for a capability, a
