@@ -27,7 +27,7 @@ use Rattle.run_laws.proofs.Sharers.{Sharer}
 use Rattle.run_laws.proofs.Sharing.{Covered, CoverBy, Says, SaysIn, SaysAt, AllSay, Writes, WritersBy}
 
 -- a share of the table is a holder's
-share_any : (n : ℕ) (ino : Ino) (holders : List Holder) → 1 ≤ shares n ino holders → list_any (is_holder n ino) holders ≡ true
+pub share_any : (n : ℕ) (ino : Ino) (holders : List Holder) → 1 ≤ shares n ino holders → list_any (is_holder n ino) holders ≡ true
 share_any n ino [] some = absurd (omega (arith, some))
 share_any n ino (h ∷ holders) some = by_test (is_holder n ino h) some (share_any n ino holders)
   where

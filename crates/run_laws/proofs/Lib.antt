@@ -4,6 +4,7 @@ mod Asked
 mod Bounding
 mod Carried
 mod Channels
+mod Clean
 mod Clients
 mod Comes
 mod Counted

@@ -1,22 +1,24 @@
 -- What a client lets go while its request is open, and what is granted to it.
-use Rattle.std.specs.Prelude.{◌≡◌, ℕ, Bool, true, false, not, ◌&&◌, ◌==◌, List, [], ◌∷◌, ◌++◌, IfSome}
+use Rattle.std.specs.Prelude.{◌≡◌, ℕ, Bool, true, false, not, ◌&&◌, ◌==◌, List, [], ◌∷◌, ◌++◌, take, IfSome}
 use Rattle.std.specs.List.{list_any}
 use Rattle.snap_ids.specs.declared.id.Ino.{Ino}
 use Rattle.snap_ids.specs.declared.values.Mode.{Mode}
 use Rattle.snap_ids.specs.declared.values.Mode.TheVariants.{Read, Write}
+use Rattle.plain_types.specs.declared.message.FlushMsg.{FlushMsg}
 use Rattle.plain_types.specs.declared.message.ToClient.{ToClient}
 use Rattle.plain_types.specs.declared.message.ToClient.TheVariants.{Grant}
 use Rattle.plain_types.specs.declared.message.ToServer.{ToServer}
 use Rattle.plain_types.specs.declared.message.ToServer.TheVariants.{DropRead}
 use Rattle.plain_types.specs.declared.request.Request.{Request}
 use Rattle.plain_types.specs.declared.request.Request.TheVariants.{Cap}
+use Rattle.plain_journal.specs.Table.{last_flush}
 use Rattle.held_files.specs.Files.{HeldFiles, is_ino, is_held, is_writer, is_write}
 use Rattle.step_table.specs.ServerState.{Holder, number_of, is_holder}
 use Rattle.step_table.specs.ClientState.{Under, Open}
 use Rattle.run_laws.specs.Holding.{is_given}
 use Rattle.run_laws.specs.Links.{View, mail_of}
 use Rattle.run_laws.specs.Requests.{asks}
-use Rattle.run_laws.specs.Tenures.{gone_in, is_gone, is_release}
+use Rattle.run_laws.specs.Tenures.{AllReleased, gone_in, is_gone, is_release}
 
 -- a message of a connection lets a file go that was held for Read
 abbrev pub is_drop : ℕ → Ino → ToServer → Bool
@@ -75,6 +77,23 @@ abbrev pub DroppedIsFree : View
 DroppedIsFree n c up down s =
     IfSome (number_of s.current n) (λ k. (ino : Ino) → list_any (is_drop k ino) up ≡ true → list_any (reads_at n ino) s.holders ≡ true
     → (is_held ino c.files ≡ false) × (list_any (is_given c.conn (gone_in c.under) ino) (down ++ mail_of n s.mail) ≡ false))
+
+-- Where the server has a connection of a client, its table has that client with each file that a message of the client's
+-- connection gives, sent or not.
+abbrev pub TableCoversGiven : View
+TableCoversGiven n c up down s =
+    IfSome (number_of s.current n) (λ k. (ino : Ino)
+    → list_any (is_given c.conn (gone_in c.under) ino) (down ++ mail_of n s.mail) ≡ true → list_any (is_holder n ino) s.holders ≡ true)
+
+-- what a message gives, its client's releases are up to a number
+abbrev pub AllGivenAfter : ℕ → List Ino → List FlushMsg → ℕ → List ToClient → Type 0
+AllGivenAfter conn gone kept last [] = Unit {0}
+AllGivenAfter conn gone kept last (m ∷ down) =
+    ((ino : Ino) → is_given conn gone ino m ≡ true → AllReleased ino last kept) × AllGivenAfter conn gone kept last down
+
+-- Where a message that was sent gives a client a file, all the client's earlier releases of it are durable.
+abbrev pub GivenAfterRelease : View
+GivenAfterRelease n c up down s = AllGivenAfter c.conn (gone_in c.under) c.unacked (last_flush (take s.durable s.entries) n) down
 
 -- what is granted is what was asked for
 abbrev pub IsAsked : Under → Ino → Mode → Type 0

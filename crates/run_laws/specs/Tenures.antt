@@ -17,7 +17,7 @@ use Rattle.plain_types.specs.declared.message.ToServer.TheVariants.{Flush}
 use Rattle.plain_journal.specs.Entries.{state_after}
 use Rattle.plain_journal.specs.Legal.{is_made_file}
 use Rattle.plain_journal.specs.Table.{barrier, last_flush}
-use Rattle.held_files.specs.Files.{HeldFiles, is_ino, is_held, is_writer, is_write}
+use Rattle.held_files.specs.Files.{HeldFile, HeldFiles, is_ino, is_held, is_writer, is_write}
 use Rattle.step_table.specs.ServerState.{Asked, Holder, number_of, is_holder, is_writer as writes_at, all_connected}
 use Rattle.step_table.specs.Acts.{of_client}
 use Rattle.step_table.specs.ClientState.{Under, Open}
@@ -30,6 +30,18 @@ IsMade entries ino = is_made_file (state_after entries) ino ≡ true
 -- Each file that a client holds is one that the durable entries made.
 abbrev pub HeldIsMade : View
 HeldIsMade n c up down s = (ino : Ino) → is_held ino c.files ≡ true → IsMade (take s.durable s.entries) ino
+
+-- of a file that is held for Read nothing waits, and nothing that was sent is unacknowledged
+abbrev pub ReaderIsClean : HeldFile → Type 0
+ReaderIsClean file = is_write file.mode ≡ false → (file.unacked ≡ []) × (file.unsent ≡ [])
+
+abbrev pub AllClean : HeldFiles → Type 0
+AllClean [] = Unit {0}
+AllClean (f ∷ files) = ReaderIsClean f.1 × AllClean files
+
+-- A client keeps nothing back of a file that it holds for Read.
+abbrev pub ReadersKeepNothing : View
+ReadersKeepNothing n c up down s = AllClean c.files
 
 -- a list in which no file stands twice
 abbrev pub Distinct : HeldFiles → Type 0

@@ -5,8 +5,8 @@ ghost use Rattle.plain_types.specs.declared.script.Script.{Script};
 ghost use Rattle.step_table.specs.Legal.{Legal};
 ghost use Rattle.run_laws.specs.Moments.{world_after};
 ghost use Rattle.run_laws.specs.Links.{EachClient};
-ghost use Rattle.run_laws.specs.LetGo.{LetGoIsRemembered, LetGoIsFree, DroppedIsFree, GrantIsAsked};
-ghost use Rattle.run_laws.specs.Tenures.{HeldIsMade, HeldOnce, GivenIsMade, AllHoldMade, EachOnce, AllAskMade, HeldMayWait, TableCovers, HeldAfterRelease, SomeIsRecalled, SaysWriter, WriterIsKnown, LeavesAsWriter};
+ghost use Rattle.run_laws.specs.LetGo.{TableCoversGiven, GivenAfterRelease, LetGoIsRemembered, LetGoIsFree, DroppedIsFree, GrantIsAsked};
+ghost use Rattle.run_laws.specs.Tenures.{HeldIsMade, HeldOnce, GivenIsMade, AllHoldMade, EachOnce, AllAskMade, HeldMayWait, TableCovers, HeldAfterRelease, SomeIsRecalled, ReadersKeepNothing, SaysWriter, WriterIsKnown, LeavesAsWriter};
 
 /// What a client holds, and what a message on its way to it gives it, is a file that the durable entries made: no restart
 /// unmakes a file that is held. A client holds a file once.
@@ -42,6 +42,19 @@ pub fn the_table_covers_what_is_held()
     ensures { (script : Script) (history : List Event) → Legal history script → EachClient TableCovers (world_after script history) }
 {}
 
+/// The server knows of what it gives: where it has a connection of a client, its table has that client with each file that a
+/// message of the client's connection, sent or not, gives it: one that is granted, or one that a `cat` or a `stat` finds for a
+/// reader that hasn't let it go since it asked.
+pub fn the_table_covers_what_is_given()
+    ensures { (script : Script) (history : List Event) → Legal history script → EachClient TableCoversGiven (world_after script history) }
+{}
+
+/// A client keeps nothing back of a file that it holds for Read: no piece of it waits or is at the store unacknowledged, and
+/// no mark of it waits for the server.
+pub fn a_reader_keeps_nothing_back()
+    ensures { (script : Script) (history : List Event) → Legal history script → EachClient ReadersKeepNothing (world_after script history) }
+{}
+
 /// Who asks is told whether it writes: an answer on its way to a client, of its connection, that finds a live file says that
 /// the client holds the file for Write exactly where it does, unless the client let the file go since it sent its request.
 pub fn an_answer_says_whether_its_client_writes()
@@ -65,6 +78,13 @@ pub fn what_is_released_is_written_in_the_table()
 /// that aren't acknowledged are among the durable entries.
 pub fn a_file_is_held_again_after_its_release()
     ensures { (script : Script) (history : List Event) → Legal history script → EachClient HeldAfterRelease (world_after script history) }
+{}
+
+/// A file is given to a client again only when its release is durable: where a message that the server has sent gives a client
+/// a file, by the client's connection, all its earlier releases of the file that aren't acknowledged are among the durable
+/// entries.
+pub fn a_file_is_given_again_after_its_release()
+    ensures { (script : Script) (history : List Event) → Legal history script → EachClient GivenAfterRelease (world_after script history) }
 {}
 
 /// A client remembers what it lets go while it waits for an answer: each file that is let go by a message on its way, of its
