@@ -30,22 +30,24 @@ use Rattle.plain_tree.specs.Line.{request_of, data_change}
 use Rattle.held_files.specs.declared.due.Due.{Due}
 use Rattle.held_files.specs.declared.due.Due.TheVariants as due
 use Rattle.held_files.specs.declared.piece.Piece.{Piece}
-use Rattle.held_files.specs.Due.{first_due, sent}
-use Rattle.held_files.specs.Files.{HeldFile, HeldFiles, Item, OfPiece, OfMark, file_of, with_file, without, hold, held_newly, held_again, with_piece, with_mark, recalled, stored, settled_to, first_sent, item_sent, is_ino, is_held, is_write, may_write, is_writer}
+use Rattle.held_files.specs.Due.{first_due, sent, due_of, given_back, is_read, or_else}
+use Rattle.held_files.specs.Files.{HeldFile, HeldFiles, Item, OfPiece, OfMark, file_of, with_file, without, hold, held_newly, held_again, with_piece, with_mark, recalled, stored, settled_to, first_sent, item_sent, is_ino, is_held, is_write, may_write, is_writer, is_empty}
 use Rattle.step_table.specs.Messages.{to_client_fits, from_store_fits, context_by}
 use Rattle.step_table.specs.Row.{Row}
 use Rattle.step_table.specs.ClientState.{Client, Under, Idle, Open, AtStore, Edit, edit_of, stays, asks, edits, reads_head, replies, size_of, context_in}
-use Rattle.step_table.specs.ClientLines.{edit_file, edit_line, read_line, opened, begin_asked, begin_other, begin_with, begin, may_begin, op_of, on_flush, send_item, send_due, sends_due, unsent_in, file_due, reading}
+use Rattle.step_table.specs.ClientLines.{edit_file, edit_line, read_line, opened, begin_asked, begin_other, begin_with, begin, may_begin, op_of, on_flush, send_item, send_due, sends_due, unsent_in, file_due, reading, mark_flush, release_flush}
 use Rattle.step_table.specs.ClientTakes.{marked, renewed, updated, settled_by, acked, goes_on, granted, asks_for, take_grant, with_found, found, asks_anew, wants_bytes, take_answer, takes_answer, take_reply, take_own, having_heard, may_take, on_told, key_of, is_key, store_answer, take_read, take_stored, on_stored}
-use Rattle.step_table.specs.World.{start}
+use Rattle.step_table.specs.World.{start, to_server as for_server}
+use Rattle.plain_types.specs.declared.message.ToServer.TheVariants.{Flush, DropRead}
+use Rattle.run_laws.proofs.Files.{file_same, not_held}
 use Rattle.run_laws.specs.Links.{View, EachClient}
 use Rattle.run_laws.specs.Moments.{steps_of, world_after}
 use Rattle.run_laws.specs.OpenLines.{BelongsTo, BelongsUnder, ReadsFile, OfItsLine}
-use Rattle.run_laws.specs.Tenures.{ReaderIsClean, AllClean, ReadersKeepNothing}
+use Rattle.run_laws.specs.Tenures.{ReaderIsClean, AllClean, ReadersKeepNothing, Distinct}
 use Rattle.run_laws.proofs.Belonging.{of_its_line}
 use Rattle.run_laws.proofs.Linked.{at_start, each_part}
-use Rattle.run_laws.proofs.Shares.{both_true}
-use Rattle.run_laws.proofs.Views.{run_keeps}
+use Rattle.run_laws.proofs.Shares.{both_true, rank, rank_in, has}
+use Rattle.run_laws.proofs.Views.{run_keeps, KeptByRows}
 use Rattle.run_laws.proofs.ViewActs.{AnyOf, KeptViews, all_fit, both, given, rows_of_acts}
 
 -- changes of the files
@@ -309,6 +311,100 @@ stored_clean c said all = clean_if (from_store_fits said) (take_stored c said) (
     by_said (NotThere key) = read (NotThere key) c.under
     by_said (CloneListIs key list) = read (CloneListIs key list) c.under
 
+-- a flush is sent of a file that is written
+abbrev DueWrites : HeldFiles → Due → Type 0
+DueWrites files (due.Mark ino follows upto size) = has ino files ≡ 2
+DueWrites files (due.Release ino size) = has ino files ≡ 2
+DueWrites files item = Unit {0}
+
+first_writes : (f : Ino × HeldFile) (files : HeldFiles) → f.1.mode ≡ Write → has f.0 (f ∷ files) ≡ 2
+first_writes f files is = rw itself (ap rank is)
+  where
+    itself : is_ino f.0 f.0 ≡ true
+    itself = grind (arith, nat_tests)
+
+one_writes : (reading : Option Ino) (f : Ino × HeldFile) (files : HeldFiles) → ReaderIsClean f.1 → IfSome (due_of reading f.0 f.1 f.1.unsent) (DueWrites (f ∷ files))
+one_writes reading f files clean = by_items f.1.unsent refl
+  where
+    writes : (item : Item) (items : List Item) → f.1.unsent ≡ item ∷ items → (m : Mode) → f.1.mode ≡ m → m ≡ Write
+    writes item items is Write at = refl
+    writes item items is Read at = absurd (some_none (sym is ∙ (clean (ap is_write at)).1))
+      where
+        some_none : item ∷ items ≡ [] → ⊥
+        some_none is = cc
+
+    back : (m : Mode) → f.1.mode ≡ m → DueWrites (f ∷ files) (given_back f.0 f.1.size m)
+    back Write is = first_writes f files is
+    back Read is = tt
+
+    if_due : (b : Bool) (item : Due) → DueWrites (f ∷ files) item → IfSome (cond b (Some item) None) (DueWrites (f ∷ files))
+    if_due true item is = is
+    if_due false item is = tt
+
+    by_items : (items : List Item) → f.1.unsent ≡ items → IfSome (due_of reading f.0 f.1 items) (DueWrites (f ∷ files))
+    by_items [] is = if_due (f.1.recalled && is_empty f.1.unacked && not (is_read reading f.0)) (given_back f.0 f.1.size f.1.mode) (back f.1.mode refl)
+    by_items (OfPiece piece ∷ items) is = tt
+    by_items (OfMark mark ∷ items) is = if_due (is_empty f.1.unacked) (due.Mark f.0 mark.follows mark.upto mark.size) (first_writes f files (writes (OfMark mark) items is f.1.mode refl))
+
+later_has : (f : Ino × HeldFile) (files : HeldFiles) (ino : Ino) → is_held f.0 files ≡ false → has ino files ≡ 2 → has ino (f ∷ files) ≡ 2
+later_has f files ino none is = by_test (is_ino ino f.0) refl
+  where
+    by_test : (b : Bool) → is_ino ino f.0 ≡ b → rank_in (cond b (Some f.1) (file_of ino files)) ≡ 2
+    by_test true at = let low : has ino files ≡ 0 = ap rank_in (file_same ino f.0 files at) ∙ not_held f.0 files none in absurd (omega (arith, low, is))
+    by_test false at = is
+
+later_writes : (f : Ino × HeldFile) (files : HeldFiles) (item : Due) → is_held f.0 files ≡ false → DueWrites files item → DueWrites (f ∷ files) item
+later_writes f files (due.Piece ino) none is = tt
+later_writes f files (due.Mark ino follows upto size) none is = later_has f files ino none is
+later_writes f files (due.Release ino size) none is = later_has f files ino none is
+later_writes f files (due.DropRead ino) none is = tt
+
+due_writes : (reading : Option Ino) (files : HeldFiles) → Distinct files → AllClean files → IfSome (first_due reading files) (DueWrites files)
+due_writes reading [] once all = tt
+due_writes reading (f ∷ files) once all = by_first (due_of reading f.0 f.1 f.1.unsent) (one_writes reading f files all.0) (first_due reading files) (due_writes reading files once.1 all.1)
+  where
+    by_first : (o : Option Due) → IfSome o (DueWrites (f ∷ files)) → (p : Option Due) → IfSome p (DueWrites files) → IfSome (or_else o p) (DueWrites (f ∷ files))
+    by_first (Some item) is p then = is
+    by_first None is None then = tt
+    by_first None is (Some item) then = later_writes f files item once.0 then
+
+abbrev pub FlushesWritten : Client → Row Client → Type 0
+FlushesWritten c r = (f : FlushMsg) → for_server r.sent ≡ Flush c.conn f ∷ [] → has f.ino c.files ≡ 2
+
+none_flushed : {R : Type 0} (conn : ℕ) (f : FlushMsg) → [] ≡ Flush conn f ∷ [] → R
+none_flushed conn f is = absurd (never is)
+  where
+    never : [] ≡ Flush conn f ∷ [] → ⊥
+    never is = cc
+
+same_flush : (conn : ℕ) (f g : FlushMsg) → Flush conn f ∷ [] ≡ Flush conn g ∷ [] → f ≡ g
+same_flush conn f g is = cc
+
+item_writes : (c d : Client) (ino : Ino) (items : List Item) (f : FlushMsg) → for_server (send_item d ino items).sent ≡ Flush c.conn f ∷ [] → has f.ino c.files ≡ 2
+item_writes c d ino [] f is = none_flushed c.conn f is
+item_writes c d ino (OfPiece p ∷ items) f is = none_flushed c.conn f is
+item_writes c d ino (OfMark m ∷ items) f is = none_flushed c.conn f is
+
+due_row : (c : Client) (unsent : List Item) (item : Due) → DueWrites c.files item → FlushesWritten c (send_due (record c { files = sent item c.files }) unsent item)
+due_row c unsent (due.Piece ino) writes = λ f is. item_writes c (record c { files = sent (due.Piece ino) c.files }) ino unsent f is
+due_row c unsent (due.Mark ino follows upto size) writes = λ f is. ap (λ (g : FlushMsg). has g.ino c.files) (sym (same_flush c.conn (mark_flush c ino follows upto size) f is)) ∙ writes
+due_row c unsent (due.Release ino size) writes = λ f is. ap (λ (g : FlushMsg). has g.ino c.files) (sym (same_flush c.conn (release_flush c ino size) f is)) ∙ writes
+due_row c unsent (due.DropRead ino) writes = λ f is. absurd (never f is)
+  where
+    never : (f : FlushMsg) → DropRead c.conn ino ∷ [] ≡ Flush c.conn f ∷ [] → ⊥
+    never f is = cc
+
+pub flush_writes : (c : Client) → Distinct c.files → AllClean c.files → IfSome (on_flush c) (FlushesWritten c)
+flush_writes c once all = by_test c.frozen
+  where
+    by_due : (o : Option Due) → IfSome o (DueWrites c.files) → IfSome (sends_due c o) (FlushesWritten c)
+    by_due None is = tt
+    by_due (Some item) is = due_row c (unsent_in (file_of (file_due item) c.files)) item is
+
+    by_test : (b : Bool) → IfSome (cond b None (sends_due c (first_due (reading c.under) c.files))) (FlushesWritten c)
+    by_test true = tt
+    by_test false = by_due (first_due (reading c.under) c.files) (due_writes (reading c.under) c.files once all)
+
 -- with the line of what is open
 abbrev pub Tidy : View
 Tidy n c up down s = OfItsLine n c up down s × ReadersKeepNothing n c up down s
@@ -330,6 +426,9 @@ tidy = both (given (λ n c up down s all. all.0) (λ n c s a fit. fit) of_its_li
   survives = λ n c up down s k fits all. all.1;
 })
 
+pub tidy_rows : KeptByRows Tidy
+tidy_rows = rows_of_acts Tidy tidy (all_fit Tidy)
+
 pub clean_law : (script : Script) (history : List Event) → EachClient ReadersKeepNothing (world_after script history)
 clean_law script history = each_part Tidy ReadersKeepNothing (world_after script history) (λ n c up down s all. all.1)
-    (run_keeps Tidy (rows_of_acts Tidy tidy (all_fit Tidy)) (start script) (steps_of history) (at_start Tidy script (λ n is. (tt, tt))))
+    (run_keeps Tidy tidy_rows (start script) (steps_of history) (at_start Tidy script (λ n is. (tt, tt))))

@@ -34,10 +34,11 @@ use Rattle.run_laws.specs.Holding.{is_given, ReleasedIsFree}
 use Rattle.run_laws.specs.Links.{View, EachClient, Offer, Behind, Link, mine, mail_of, offer}
 use Rattle.run_laws.specs.Moments.{steps_of, world_after}
 use Rattle.run_laws.specs.Requests.{IsIt, Requested}
-use Rattle.run_laws.specs.Tenures.{AllReleased, gone_in, is_release, AllLeaving, LeavesAsWriter}
+use Rattle.run_laws.specs.Tenures.{AllReleased, gone_in, is_release, flushes_file, AllFlushed, FlushedIsWritten}
 use Rattle.run_laws.proofs.Acts.{Fit, KeptByActs, any_fit, acts_keep, row_keeps, turn_keeps, commit_keeps, restart_keeps, take_ask, take_connect, take_flush, take_drop, take_purged, take_deleted}
 use Rattle.run_laws.proofs.Asked.{requests_act}
 use Rattle.run_laws.proofs.Bounding.{act_rest}
+use Rattle.run_laws.proofs.Clean.{Tidy, tidy_rows, FlushesWritten, flush_writes}
 use Rattle.run_laws.proofs.Counted.{last_take}
 use Rattle.run_laws.proofs.Covering.{or_second, current_number, other_file, down_none, mail_none}
 use Rattle.run_laws.proofs.Covers.{share_writes}
@@ -45,9 +46,8 @@ use Rattle.run_laws.proofs.Files.{held_not}
 use Rattle.run_laws.proofs.Giving.{MyFit, other_holder, other_client, releases, shares_ino}
 use Rattle.run_laws.proofs.Granting.{treat_my, anew_my, reported_my, restarts_my, turn_my, flush_other, drop_other, back_other}
 use Rattle.run_laws.proofs.Holders.{or_false}
-use Rattle.run_laws.proofs.Holds.{NoFlush, Stays, Settles, op_stays, told_takes, stored_stays}
+use Rattle.run_laws.proofs.Holds.{NoFlush, Stays, Flushed, Settles, op_stays, flush_sends, told_takes, stored_stays}
 use Rattle.run_laws.proofs.Knowing.{row_if}
-use Rattle.run_laws.proofs.Lending.{AllPlain, Quiet, LetsGo, flush_lends}
 use Rattle.run_laws.proofs.Linked.{at_start, each_part, if_row}
 use Rattle.run_laws.proofs.Once.{hand_of}
 use Rattle.run_laws.proofs.Pairs.{Holds, before_all, next, first, not_given, alone_law}
@@ -57,11 +57,12 @@ use Rattle.run_laws.proofs.Sharing.{Letting, CoverBy, Covered}
 use Rattle.run_laws.proofs.Sharers.{Grounds, Sharer, Before}
 use Rattle.run_laws.proofs.Taking.{Way, after_held, current_same, current_all}
 use Rattle.run_laws.proofs.ViewActs.{AnyOf, any_of}
-use Rattle.run_laws.proofs.Views.{Client's, Server's, GivenByRows, step_gives}
+use Rattle.run_laws.proofs.Views.{Client's, Server's, GivenByRows, step_gives, step_keeps}
 
--- a release of a connection: the table has its client as the writer of the file, and no second one comes behind it
+-- a flush of a connection: the table has its client as the writer of the file; and behind a release of a file no flush of it
+-- comes
 abbrev pub Leave : ℕ → (Ino → ℕ) → List ToServer → ToServer → Type 0
-Leave k table behind m = (ino : Ino) → is_release k ino m ≡ true → (2 ≤ table ino) × (list_any (is_release k ino) behind ≡ false)
+Leave k table behind m = (ino : Ino) → (flushes_file k ino m ≡ true → 2 ≤ table ino) × (is_release k ino m ≡ true → list_any (flushes_file k ino) behind ≡ false)
 
 abbrev pub AllLeave : ℕ → (Ino → ℕ) → List ToServer → Type 0
 AllLeave k table [] = Unit {0}
@@ -79,14 +80,14 @@ first_or : (a b : Bool) → a ≡ true → (a || b) ≡ true
 first_or true b is = refl
 first_or false b is = absurd (true≢false (sym is))
 
-leave_table : (k : ℕ) (table more : Ino → ℕ) (up : List ToServer) → ((ino : Ino) → list_any (is_release k ino) up ≡ true → 2 ≤ table ino → 2 ≤ more ino) → AllLeave k table up → AllLeave k more up
+leave_table : (k : ℕ) (table more : Ino → ℕ) (up : List ToServer) → ((ino : Ino) → list_any (flushes_file k ino) up ≡ true → 2 ≤ table ino → 2 ≤ more ino) → AllLeave k table up → AllLeave k more up
 leave_table k table more [] go all = tt
 leave_table k table more (m ∷ up) go all = (
-  (λ ino is. let was = all.0 ino is in (go ino (first_or (is_release k ino m) (list_any (is_release k ino) up) is) was.0, was.1)),
-  leave_table k table more up (λ ino any. go ino (or_second (is_release k ino m) (list_any (is_release k ino) up) any)) all.1,
+  (λ ino. let was = all.0 ino in ((λ is. go ino (first_or (flushes_file k ino m) (list_any (flushes_file k ino) up) is) (was.0 is)), was.1)),
+  leave_table k table more up (λ ino any. go ino (or_second (flushes_file k ino m) (list_any (flushes_file k ino) up) any)) all.1,
 )
 
-leave_by : (table more : Ino → ℕ) (up : List ToServer) (o : Option ℕ) → ((k : ℕ) → o ≡ Some k → (ino : Ino) → list_any (is_release k ino) up ≡ true → 2 ≤ table ino → 2 ≤ more ino) → LeaveBy table up o → LeaveBy more up o
+leave_by : (table more : Ino → ℕ) (up : List ToServer) (o : Option ℕ) → ((k : ℕ) → o ≡ Some k → (ino : Ino) → list_any (flushes_file k ino) up ≡ true → 2 ≤ table ino → 2 ≤ more ino) → LeaveBy table up o → LeaveBy more up o
 leave_by table more up None go all = tt
 leave_by table more up (Some k) go all = leave_table k table more up (go k refl) all
 
@@ -94,46 +95,50 @@ leave_tail : (table : Ino → ℕ) (m : ToServer) (up : List ToServer) (o : Opti
 leave_tail table m up None all = tt
 leave_tail table m up (Some k) all = all.1
 
-none_leave : (k : ℕ) (table : Ino → ℕ) (up : List ToServer) → ((ino : Ino) → list_any (is_release k ino) up ≡ false) → AllLeave k table up
+none_leave : (k : ℕ) (table : Ino → ℕ) (up : List ToServer) → ((ino : Ino) → list_any (flushes_file k ino) up ≡ false) → AllLeave k table up
 none_leave k table [] none = tt
 none_leave k table (m ∷ up) none = (
-  (λ ino is. absurd (true≢false (sym is ∙ (or_false (is_release k ino m) (list_any (is_release k ino) up) (none ino)).0))),
-  none_leave k table up (λ ino. (or_false (is_release k ino m) (list_any (is_release k ino) up) (none ino)).1),
+  (λ ino. let parts = or_false (flushes_file k ino m) (list_any (flushes_file k ino) up) (none ino) in ((λ is. absurd (true≢false (sym is ∙ parts.0))), (λ is. parts.1))),
+  none_leave k table up (λ ino. (or_false (flushes_file k ino m) (list_any (flushes_file k ino) up) (none ino)).1),
 )
 
-leave_more : (k : ℕ) (table : Ino → ℕ) (up more : List ToServer) → ((ino : Ino) → list_any (is_release k ino) more ≡ false) → AllLeave k table up → AllLeave k table (up ++ more)
+leave_more : (k : ℕ) (table : Ino → ℕ) (up more : List ToServer) → ((ino : Ino) → list_any (flushes_file k ino) more ≡ false) → AllLeave k table up → AllLeave k table (up ++ more)
 leave_more k table [] more none all = none_leave k table more none
 leave_more k table (m ∷ up) more none all = (
-  (λ ino is. let was = all.0 ino is in (was.0, list_any-append (is_release k ino) up more ∙ or_none (list_any (is_release k ino) up) (list_any (is_release k ino) more) was.1 (none ino))),
+  (λ ino. let was = all.0 ino in (was.0, λ is. list_any-append (flushes_file k ino) up more ∙ or_none (list_any (flushes_file k ino) up) (list_any (flushes_file k ino) more) (was.1 is) (none ino))),
   leave_more k table up more none all.1,
 )
 
-leave_end : (k : ℕ) (table : Ino → ℕ) (up : List ToServer) (m : ToServer) → Leave k table up m → AllLeave k table up → AllLeave k table (up ++ m ∷ [])
-leave_end k table [] m new all = (new, tt)
+-- a new flush of a file of which no release is on the way
+abbrev New : ℕ → (Ino → ℕ) → List ToServer → ToServer → Type 0
+New k table up m = (ino : Ino) → flushes_file k ino m ≡ true → (2 ≤ table ino) × (list_any (is_release k ino) up ≡ false)
+
+leave_end : (k : ℕ) (table : Ino → ℕ) (up : List ToServer) (m : ToServer) → New k table up m → AllLeave k table up → AllLeave k table (up ++ m ∷ [])
+leave_end k table [] m new all = ((λ ino. ((λ is. (new ino is).0), (λ is. refl))), tt)
 leave_end k table (x ∷ up) m new all = (
-  (λ ino is. let was = all.0 ino is in (was.0, list_any-append (is_release k ino) up (m ∷ []) ∙ or_none (list_any (is_release k ino) up) (list_any (is_release k ino) (m ∷ [])) was.1 (not_it ino is (is_release k ino m) refl))),
+  (λ ino. let was = all.0 ino in (was.0, λ is. list_any-append (flushes_file k ino) up (m ∷ []) ∙ or_none (list_any (flushes_file k ino) up) (list_any (flushes_file k ino) (m ∷ [])) (was.1 is) (not_it ino is (flushes_file k ino m) refl))),
   leave_end k table up m (λ ino is. let now = new ino is in (now.0, (or_false (is_release k ino x) (list_any (is_release k ino) up) now.1).1)) all.1,
 )
   where
-    not_it : (ino : Ino) → is_release k ino x ≡ true → (b : Bool) → is_release k ino m ≡ b → (b || false) ≡ false
+    not_it : (ino : Ino) → is_release k ino x ≡ true → (b : Bool) → flushes_file k ino m ≡ b → (b || false) ≡ false
     not_it ino is true now = absurd (true≢false (sym is ∙ (or_false (is_release k ino x) (list_any (is_release k ino) up) (new ino now).1).0))
     not_it ino is false now = refl
 
--- messages that release nothing
-no_release : (k : ℕ) (ino : Ino) (up : List ToServer) → NoFlush up → list_any (is_release k ino) up ≡ false
-no_release k ino [] none = refl
-no_release k ino (Flush conn f ∷ up) none = absurd none
-no_release k ino (m ∷ up) none = no_release k ino up none
+-- messages that flush nothing
+no_flush : (k : ℕ) (ino : Ino) (up : List ToServer) → NoFlush up → list_any (flushes_file k ino) up ≡ false
+no_flush k ino [] none = refl
+no_flush k ino (Flush conn f ∷ up) none = absurd none
+no_flush k ino (m ∷ up) none = no_flush k ino up none
 
-plain_release : (k : ℕ) (ino : Ino) (up : List ToServer) → AllPlain up → list_any (is_release k ino) up ≡ false
-plain_release k ino [] all = refl
-plain_release k ino (Flush conn f ∷ up) all = or_none (conn == k && (f.release && is_ino ino f.ino)) (list_any (is_release k ino) up) (neither (conn == k) f.release (is_ino ino f.ino) all.0) (plain_release k ino up all.1)
+-- a release is a flush
+release_flushes : (k : ℕ) (ino : Ino) (m : ToServer) → is_release k ino m ≡ true → flushes_file k ino m ≡ true
+release_flushes k ino (Flush conn f) is = by_tests (conn == k) f.release (is_ino ino f.ino) is
   where
-    neither : (a b d : Bool) → b ≡ false → (a && (b && d)) ≡ false
-    neither true true d none = absurd (true≢false none)
-    neither true false d none = refl
-    neither false b d none = refl
-plain_release k ino (m ∷ up) all = absurd all.0
+    by_tests : (a b d : Bool) → (a && (b && d)) ≡ true → (a && d) ≡ true
+    by_tests true true d is = is
+    by_tests true false d is = absurd (true≢false (sym is))
+    by_tests false b d is = absurd (true≢false (sym is))
+release_flushes k ino m is = absurd (true≢false (sym is))
 
 -- where the releases of a file are entered, none is on the way
 above_free : (ino : Ino) (low last : ℕ) (kept : List FlushMsg) → low ≤ last → AllReleased ino low kept → list_any (releases ino) (above last kept) ≡ false
@@ -207,7 +212,7 @@ brought_leaving n c up down s None was = was
 brought_leaving n c up down s (Some a) was = was
 
 -- a client connects: nothing of its connection is on the way
-behind_none : (o : Offer) (j k : ℕ) (ino : Ino) (up : List ToServer) → Behind o j up → list_any (is_release k ino) up ≡ false
+behind_none : (o : Offer) (j k : ℕ) (ino : Ino) (up : List ToServer) → Behind o j up → list_any (flushes_file k ino) up ≡ false
 behind_none o j k ino [] is = refl
 behind_none o j k ino (Connect conn said flushes asked ∷ up) is = behind_none o (j + 1) k ino up is.1
 behind_none o j k ino (m ∷ up) is = absurd is
@@ -266,7 +271,7 @@ other_connect n x c conn said flushes asked up down s isnt k =
     treats (Some r) = let a = asked_by x r.0 r.1 in
         treat_my n c (take_in next a) false a (λ b at. hand_of next a b (is_operation next a) at) (λ at. absurd (true≢false (sym at ∙ isnt)))
 
--- a flush is taken: what it releases isn't released by one behind it
+-- a flush is taken: what it releases isn't flushed by one behind it
 at_number : (table : Ino → ℕ) (q : List ToServer) (o : Option ℕ) (conn : ℕ) → o ≡ Some conn → LeaveBy table q o → AllLeave conn table q
 at_number table q None conn is all = cc
 at_number table q (Some k) conn is all = subst (λ (j : ℕ). AllLeave j table q) (same is) all
@@ -301,10 +306,10 @@ own_flush n c conn f up down s k =
     table x none true = ap (shares n x) (act_rest s (TellAck n f.number) tt).1
     table x none false = ap (shares n x) (act_rest (act (buffer s e) (flush_settles n f)) (TellAck n f.number) tt).1 ∙ settles f.release (is_ino x f.ino) x refl none
 
-    other : is_current s n conn ≡ true → (x : Ino) → list_any (is_release conn x) up ≡ true → (b : Bool) → (f.release && is_ino x f.ino) ≡ b → b ≡ false
+    other : is_current s n conn ≡ true → (x : Ino) → list_any (flushes_file conn x) up ≡ true → (b : Bool) → (f.release && is_ino x f.ino) ≡ b → b ≡ false
     other now x any true is =
         let all = at_number (λ ino. shares n ino s.holders) (Flush conn f ∷ up) (number_of s.current n) conn (current_number (number_of s.current n) conn now) k.1 in
-        absurd (true≢false (sym any ∙ (all.0 x (same_number conn (f.release && is_ino x f.ino) is)).1))
+        absurd (true≢false (sym any ∙ (all.0 x).1 (same_number conn (f.release && is_ino x f.ino) is)))
     other now x any false is = refl
 
     leaves : is_current s n conn ≡ true → Leaving n c up down (acts s (flush_rule n s f))
@@ -312,8 +317,8 @@ own_flush n c conn f up down s k =
         (leave_by (λ ino. shares n ino s.holders) (λ ino. shares n ino (acts s (flush_rule n s f)).holders) up (number_of s.current n)
         (λ j at x any two. let same = table x (other now x (at_it j at x any) (f.release && is_ino x f.ino) refl) (nat_le f.number (last_flush s.entries n)) in omega (arith, same, two)) was.1)
       where
-        at_it : (j : ℕ) → number_of s.current n ≡ Some j → (x : Ino) → list_any (is_release j x) up ≡ true → list_any (is_release conn x) up ≡ true
-        at_it j at x any = subst (λ (i : ℕ). list_any (is_release i x) up ≡ true) (same (sym at ∙ current_number (number_of s.current n) conn now)) any
+        at_it : (j : ℕ) → number_of s.current n ≡ Some j → (x : Ino) → list_any (flushes_file j x) up ≡ true → list_any (flushes_file conn x) up ≡ true
+        at_it j at x any = subst (λ (i : ℕ). list_any (flushes_file i x) up ≡ true) (same (sym at ∙ current_number (number_of s.current n) conn now)) any
           where
             same : Some j ≡ Some conn → j ≡ conn
             same is = cc
@@ -365,7 +370,7 @@ other n x c (Purged id) up down s isnt k = take_purged (by_between n c up down) 
 other n x c (Deleted ino) up down s isnt k = take_deleted (by_between n c up down) s x ino (between n c up down s k)
 
 -- the rows of the client
-sends_none : (n : ℕ) (up more : List ToServer) (s : Server) → ((k : ℕ) (ino : Ino) → list_any (is_release k ino) more ≡ false) → LeaveBy (λ ino. shares n ino s.holders) up (number_of s.current n) → LeaveBy (λ ino. shares n ino s.holders) (up ++ more) (number_of s.current n)
+sends_none : (n : ℕ) (up more : List ToServer) (s : Server) → ((k : ℕ) (ino : Ino) → list_any (flushes_file k ino) more ≡ false) → LeaveBy (λ ino. shares n ino s.holders) up (number_of s.current n) → LeaveBy (λ ino. shares n ino s.holders) (up ++ more) (number_of s.current n)
 sends_none n up more s none was = by_number (number_of s.current n) was
   where
     by_number : (o : Option ℕ) → LeaveBy (λ ino. shares n ino s.holders) up o → LeaveBy (λ ino. shares n ino s.holders) (up ++ more) o
@@ -373,63 +378,67 @@ sends_none n up more s none was = by_number (number_of s.current n) was
     by_number (Some k) all = leave_more k (λ ino. shares n ino s.holders) up more (none k) all
 
 stays_leaving : (n : ℕ) (c : Client) (up : List ToServer) (down : List ToClient) (s : Server) (entries : List Entry) (r : Row Client) → Stays entries c r → LeaveBy (λ ino. shares n ino s.holders) up (number_of s.current n) → Client's Leaving n up down s r
-stays_leaving n c up down s entries r stays was = sends_none n up (for_server r.sent) s (λ k ino. no_release k ino (for_server r.sent) stays.none) was
+stays_leaving n c up down s entries r stays was = sends_none n up (for_server r.sent) s (λ k ino. no_flush k ino (for_server r.sent) stays.none) was
 
-lets_go : (n : ℕ) (c : Client) (up : List ToServer) (down : List ToClient) (s : Server) (r : Row Client) → LetsGo c r → Known n c up down s → Client's Leaving n up down s r
-lets_go n c up down s r lets k = by_kind lets.says
+-- a flush is sent: its file is written, so its releases are entered
+flushed_leaving : (n : ℕ) (c : Client) (up : List ToServer) (down : List ToClient) (s : Server) (entries : List Entry) (r : Row Client) → (flushed : Flushed entries c r) → has flushed.flush.ino c.files ≡ 2 → Known n c up down s → Client's Leaving n up down s r
+flushed_leaving n c up down s entries r flushed two k = subst (λ (more : List ToServer). LeaveBy table (up ++ more) (number_of s.current n)) (sym flushed.sent) (by_number (number_of s.current n) k.0.1.1.0.cover k.0.0.0.1.way k.1)
   where
-    By : List ToServer → Type 0
-    By more = LeaveBy (λ ino. shares n ino s.holders) (up ++ more) (number_of s.current n)
+    table : Ino → ℕ
+    table ino = shares n ino s.holders
 
-    released : (f : FlushMsg) → f.ino ≡ lets.ino → has lets.ino c.files ≡ 2 → (o : Option ℕ) → CoverBy (Covered c.conn (gone_in c.under) c.files (down ++ mail_of n s.mail)) (λ ino. shares n ino s.holders) o → Way o up c.unacked (last_flush s.entries n) → LeaveBy (λ ino. shares n ino s.holders) up o → LeaveBy (λ ino. shares n ino s.holders) (up ++ Flush c.conn f ∷ []) o
-    released f file two None cover way all = tt
-    released f file two (Some j) cover way all = leave_end j (λ ino. shares n ino s.holders) up (Flush c.conn f) new all
+    f : FlushMsg
+    f = flushed.flush
+
+    has_it : (x : Ino) → is_ino x f.ino ≡ true → has x c.files ≡ 2
+    has_it x is = ap (λ (i : Ino). has i c.files) (grind (arith, nat_tests, is)) ∙ two
+
+    entered : (x : Ino) → has x c.files ≡ 2 → (has x c.files ≡ 0) ⊎ AllReleased x (last_flush (take s.durable s.entries) n) c.unacked → AllReleased x (last_flush (take s.durable s.entries) n) c.unacked
+    entered x two (inl none) = absurd (omega (arith, two, none))
+    entered x two (inr all) = all
+
+    by_number : (o : Option ℕ) → CoverBy (Covered c.conn (gone_in c.under) c.files (down ++ mail_of n s.mail)) table o → Way o up c.unacked (last_flush s.entries n) → LeaveBy table up o → LeaveBy table (up ++ Flush c.conn f ∷ []) o
+    by_number None cover way all = tt
+    by_number (Some j) cover way all = leave_end j table up (Flush c.conn f) new all
       where
-        has_it : (x : Ino) → is_ino x f.ino ≡ true → has x c.files ≡ 2
-        has_it x is = has_same x lets.ino (subst (λ (i : Ino). is_ino x i ≡ true) file is) ∙ two
-          where
-            has_same : (x y : Ino) → is_ino x y ≡ true → has x c.files ≡ has y c.files
-            has_same x y is = ap (λ (i : Ino). has i c.files) (grind (arith, nat_tests, is))
+        not_any : (x : Ino) (b : Bool) → list_any (is_release j x) up ≡ b → AllReleased x (last_flush (take s.durable s.entries) n) c.unacked → b ≡ false
+        not_any x true any all = absurd (never_low j x up (last_flush (take s.durable s.entries) n) (last_flush s.entries n) c.unacked way (last_take n s.durable s.entries k.0.0.0.1.counted) any all)
+        not_any x false any all = refl
 
-        entered : (x : Ino) → has x c.files ≡ 2 → (has x c.files ≡ 0) ⊎ AllReleased x (last_flush (take s.durable s.entries) n) c.unacked → AllReleased x (last_flush (take s.durable s.entries) n) c.unacked
-        entered x two (inl none) = absurd (omega (arith, two, none))
-        entered x two (inr all) = all
+        new : New j table up (Flush c.conn f)
+        new x is = let it = has_it x (both_true (c.conn == j) (is_ino x f.ino) is).1 in
+            (let covers = (cover x).0 in omega (arith, covers, it), not_any x (list_any (is_release j x) up) refl (entered x it (k.0.1.1.1.held x)))
 
-        new : Leave j (λ ino. shares n ino s.holders) up (Flush c.conn f)
-        new x is =
-            let it = has_it x (both_true f.release (is_ino x f.ino) (both_true (c.conn == j) (f.release && is_ino x f.ino) is).1).1 in
-            (let covers = (cover x).0 in omega (arith, covers, it), not_any (list_any (is_release j x) up) refl (entered x it (k.0.1.1.1.held x)))
-          where
-            not_any : (b : Bool) → list_any (is_release j x) up ≡ b → AllReleased x (last_flush (take s.durable s.entries) n) c.unacked → b ≡ false
-            not_any true any all = absurd (never_low j x up (last_flush (take s.durable s.entries) n) (last_flush s.entries n) c.unacked way (last_take n s.durable s.entries k.0.0.0.1.counted) any all)
-            not_any false any all = refl
+-- with what readers keep back
+abbrev pub Whole : View
+Whole n c up down s = Known n c up down s × Tidy n c up down s
 
-    by_kind : ((has lets.ino c.files ≡ 1) × (for_server r.sent ≡ DropRead c.conn lets.ino ∷ [])) ⊎ ((has lets.ino c.files ≡ 2) × ((f : FlushMsg) × (f.release ≡ true) × (f.ino ≡ lets.ino) × (for_server r.sent ≡ Flush c.conn f ∷ []))) → Client's Leaving n up down s r
-    by_kind (inl drop) = subst By (sym drop.1) (sends_none n up (DropRead c.conn lets.ino ∷ []) s (λ j ino. refl) k.1)
-    by_kind (inr release) = subst By (sym release.1.3) (released release.1.0 release.1.2 release.0 (number_of s.current n) k.0.1.1.0.cover k.0.0.0.1.way k.1)
-
-pub leaves : GivenByRows Known Leaving
+pub leaves : GivenByRows Whole Leaving
 leaves = record {
-  weak = λ n c up down s k. k.1;
-  op = λ n c up down s k. if_row (on_op c) (Stays (take s.durable s.entries) c) (Client's Leaving n up down s) (λ r stays. stays_leaving n c up down s (take s.durable s.entries) r stays k.1) (op_stays (take s.durable s.entries) c c.lines k.0.0.0.0.1.1.holds);
-  flush = λ n c up down s k. if_row (on_flush c) (λ r. (c.frozen ≡ false) × (Quiet c r ⊎ LetsGo c r)) (Client's Leaving n up down s) (λ r does. by_kind n c up down s r k does.1) (flush_lends c k.0.1.0);
-  told = λ n c up m down s k. told_row n c up m down s k (told_takes (take s.durable s.entries) c m k.0.0.0.0.1.1.down.0 k.0.0.0.0.1.1.holds);
-  stored = λ n c m up down s k. stays_leaving n c up down s (take s.durable s.entries) (on_stored c m) (stored_stays (take s.durable s.entries) c m k.0.0.0.0.1.1.holds) k.1;
-  own = own;
-  other = other;
-  reported = λ n c m up down s k. row_keeps (by_between n c up down) s (reported s m) (reported_my n c s m) (between n c up down s k);
-  committed = λ n c up down s k. commit_keeps {Q = Between n c up down} {After = Server's Leaving n c up down} (λ r e after. after) (λ t q. q.1) s (between n c up down s k);
-  tended = λ n c up down s k. turn_keeps (by_between n c up down) s (turn_my n c s k.0.0.1.0.in_deferred) (between n c up down s k);
-  restarted = λ n c up down s j k. restart_keeps (λ r e after. after) (by_between n c up down) s j (λ fits. ((requested.survives n c up down s j fits (asks_of n c up down s k), tt), restarts_my n c (left_with s (s.durable + j))));
+  weak = λ n c up down s a. a.0.1;
+  op = λ n c up down s a. let k = a.0 in if_row (on_op c) (Stays (take s.durable s.entries) c) (Client's Leaving n up down s) (λ r stays. stays_leaving n c up down s (take s.durable s.entries) r stays k.1) (op_stays (take s.durable s.entries) c c.lines k.0.0.0.0.1.1.holds);
+  flush = λ n c up down s a. let k = a.0 in both_some (on_flush c) (λ r. (c.frozen ≡ false) × (Stays (take s.durable s.entries) c r ⊎ Flushed (take s.durable s.entries) c r)) (FlushesWritten c) (Client's Leaving n up down s) (λ r sends writes. by_kind n c up down s r k sends.1 writes) (flush_sends (take s.durable s.entries) c k.0.0.0.0.1.1.holds) (flush_writes c k.0.1.0 a.1.1);
+  told = λ n c up m down s a. let k = a.0 in told_row n c up m down s k (told_takes (take s.durable s.entries) c m k.0.0.0.0.1.1.down.0 k.0.0.0.0.1.1.holds);
+  stored = λ n c m up down s a. let k = a.0 in stays_leaving n c up down s (take s.durable s.entries) (on_stored c m) (stored_stays (take s.durable s.entries) c m k.0.0.0.0.1.1.holds) k.1;
+  own = λ n c m up down s a. own n c m up down s a.0;
+  other = λ n x c m up down s isnt a. other n x c m up down s isnt a.0;
+  reported = λ n c m up down s a. row_keeps (by_between n c up down) s (reported s m) (reported_my n c s m) (between n c up down s a.0);
+  committed = λ n c up down s a. commit_keeps {Q = Between n c up down} {After = Server's Leaving n c up down} (λ r e after. after) (λ t q. q.1) s (between n c up down s a.0);
+  tended = λ n c up down s a. turn_keeps (by_between n c up down) s (turn_my n c s a.0.0.0.1.0.in_deferred) (between n c up down s a.0);
+  restarted = λ n c up down s j a. restart_keeps (λ r e after. after) (by_between n c up down) s j (λ fits. ((requested.survives n c up down s j fits (asks_of n c up down s a.0), tt), restarts_my n c (left_with s (s.durable + j))));
 }
   where
-    by_kind : (n : ℕ) (c : Client) (up : List ToServer) (down : List ToClient) (s : Server) (r : Row Client) → Known n c up down s → Quiet c r ⊎ LetsGo c r → Client's Leaving n up down s r
-    by_kind n c up down s r k (inl quiet) = sends_none n up (for_server r.sent) s (λ j ino. plain_release j ino (for_server r.sent) quiet.says) k.1
-    by_kind n c up down s r k (inr lets) = lets_go n c up down s r lets k
+    both_some : {X : Type 0} (o : Option X) (P Q R : X → Type 0) → ((x : X) → P x → Q x → R x) → IfSome o P → IfSome o Q → IfSome o R
+    both_some None P Q R go p q = tt
+    both_some (Some x) P Q R go p q = go x p q
+
+    by_kind : (n : ℕ) (c : Client) (up : List ToServer) (down : List ToClient) (s : Server) (r : Row Client) → Known n c up down s → Stays (take s.durable s.entries) c r ⊎ Flushed (take s.durable s.entries) c r → FlushesWritten c r → Client's Leaving n up down s r
+    by_kind n c up down s r k (inl stays) writes = stays_leaving n c up down s (take s.durable s.entries) r stays k.1
+    by_kind n c up down s r k (inr flushed) writes = flushed_leaving n c up down s (take s.durable s.entries) r flushed (writes flushed.flush flushed.sent) k
 
     told_row : (n : ℕ) (c : Client) (up : List ToServer) (m : ToClient) (down : List ToClient) (s : Server) → Known n c up (m ∷ down) s → Stays (take s.durable s.entries) c (on_told c m) ⊎ Settles (take s.durable s.entries) c m (on_told c m) → Client's Leaving n up down s (on_told c m)
     told_row n c up m down s k (inl stays) = stays_leaving n c up down s (take s.durable s.entries) (on_told c m) stays k.1
-    told_row n c up m down s k (inr settles) = sends_none n up (for_server (on_told c m).sent) s (λ j ino. ap (list_any (is_release j ino)) settles.sent) k.1
+    told_row n c up m down s k (inr settles) = sends_none n up (for_server (on_told c m).sent) s (λ j ino. ap (list_any (flushes_file j ino)) settles.sent) k.1
 
 -- along each run
 known_each : (w : World) (h : Holds w) → EachClient Leaving w → EachClient Known w
@@ -439,22 +448,29 @@ known_each w h each n = found (client w.clients n) (before_all w h n) (each n)
     found None before all = tt
     found (Some c) before all = ((before.0, before.1.0), all)
 
-leaving_run : (w : World) (steps : List Step) → Holds w → EachClient Leaving w → EachClient Known (after w steps)
-leaving_run w [] h each = known_each w h each
-leaving_run w (step ∷ steps) h each = leaving_run (after_row w (row w step)) steps (next w step h) (step_gives Known Leaving leaves w step (known_each w h each))
+whole_each : (w : World) → EachClient Known w → EachClient Tidy w → EachClient Whole w
+whole_each w each tidies n = found (client w.clients n) (each n) (tidies n)
+  where
+    found : (o : Option Client) → IfSome o (λ c. Known n c (mine n w.up) (mine n w.down) w.server) → IfSome o (λ c. Tidy n c (mine n w.up) (mine n w.down) w.server) → IfSome o (λ c. Whole n c (mine n w.up) (mine n w.down) w.server)
+    found None known all = tt
+    found (Some c) known all = (known, all)
+
+leaving_run : (w : World) (steps : List Step) → Holds w → EachClient Tidy w → EachClient Leaving w → EachClient Known (after w steps)
+leaving_run w [] h tidies each = known_each w h each
+leaving_run w (step ∷ steps) h tidies each = leaving_run (after_row w (row w step)) steps (next w step h) (step_keeps Tidy tidy_rows w step tidies) (step_gives Whole Leaving leaves w step (whole_each w (known_each w h each) tidies))
 
 pub known_hold : (script : Script) (steps : List Step) → EachClient Known (after (start script) steps)
-known_hold script steps = leaving_run (start script) steps (first script) (at_start Leaving script (λ n is. subst (LeaveBy (λ ino. 0) []) (sym is) tt))
+known_hold script steps = leaving_run (start script) steps (first script) (at_start Tidy script (λ n is. (tt, tt))) (at_start Leaving script (λ n is. subst (LeaveBy (λ ino. 0) []) (sym is) tt))
 
 -- the laws
-all_leaving : (n k : ℕ) (holders : List Holder) (up : List ToServer) → AllLeave k (λ ino. shares n ino holders) up → AllLeaving n k holders up
+all_leaving : (n k : ℕ) (holders : List Holder) (up : List ToServer) → AllLeave k (λ ino. shares n ino holders) up → AllFlushed n k holders up
 all_leaving n k holders [] all = tt
-all_leaving n k holders (m ∷ up) all = ((λ ino is. let was = all.0 ino is in (share_writes n ino holders was.0, was.1)), all_leaving n k holders up all.1)
+all_leaving n k holders (m ∷ up) all = ((λ ino. let was = all.0 ino in ((λ is. share_writes n ino holders (was.0 is)), was.1)), all_leaving n k holders up all.1)
 
-pub leaving_law : (script : Script) (history : List Event) → EachClient LeavesAsWriter (world_after script history)
-leaving_law script history = each_part Known LeavesAsWriter (world_after script history) (λ n c up down s k. by_number n c up s (number_of s.current n) k.1) (known_hold script (steps_of history))
+pub leaving_law : (script : Script) (history : List Event) → EachClient FlushedIsWritten (world_after script history)
+leaving_law script history = each_part Known FlushedIsWritten (world_after script history) (λ n c up down s k. by_number n c up s (number_of s.current n) k.1) (known_hold script (steps_of history))
   where
-    by_number : (n : ℕ) (c : Client) (up : List ToServer) (s : Server) (o : Option ℕ) → LeaveBy (λ ino. shares n ino s.holders) up o → IfSome o (λ k. AllLeaving n k s.holders up)
+    by_number : (n : ℕ) (c : Client) (up : List ToServer) (s : Server) (o : Option ℕ) → LeaveBy (λ ino. shares n ino s.holders) up o → IfSome o (λ k. AllFlushed n k s.holders up)
     by_number n c up s None all = tt
     by_number n c up s (Some k) all = all_leaving n k s.holders up all
 
@@ -485,7 +501,7 @@ any_leaves k table ino [] all any = absurd (true≢false (sym any))
 any_leaves k table ino (m ∷ up) all any = by_test (is_release k ino m) refl any (any_leaves k table ino up all.1)
   where
     by_test : (b : Bool) → is_release k ino m ≡ b → (b || list_any (is_release k ino) up) ≡ true → (list_any (is_release k ino) up ≡ true → 2 ≤ table ino) → 2 ≤ table ino
-    by_test true is any go = (all.0 ino is).0
+    by_test true is any go = (all.0 ino).0 (release_flushes k ino m is)
     by_test false is any go = go any
 
 pub free_law : (script : Script) (history : List Event) → ReleasedIsFree (world_after script history)

@@ -181,21 +181,26 @@ WriterIsKnown n c up down s =
     IfSome (number_of s.current n) (λ k. (ino : Ino) → list_any (writes_at n ino) s.holders ≡ true
     → (is_writer ino c.files ≡ true) ⊎ ((list_any (is_release k ino) up ≡ true) ⊎ (wants_write ino c.under ≡ true)))
 
--- a release on the way: the server's table has its client as the writer of the file, and no second release of the file comes
--- behind it
-abbrev pub IsLeaving : ℕ → ℕ → List Holder → List ToServer → ToServer → Type 0
-IsLeaving n k holders behind m =
-    (ino : Ino) → is_release k ino m ≡ true
-    → (list_any (writes_at n ino) holders ≡ true) × (list_any (is_release k ino) behind ≡ false)
+-- a message of a connection is a flush of a file
+abbrev pub flushes_file : ℕ → Ino → ToServer → Bool
+flushes_file k ino (Flush conn f) = conn == k && is_ino ino f.ino
+flushes_file k ino m = false
 
-abbrev pub AllLeaving : ℕ → ℕ → List Holder → List ToServer → Type 0
-AllLeaving n k holders [] = Unit {0}
-AllLeaving n k holders (m ∷ up) = IsLeaving n k holders up m × AllLeaving n k holders up
+-- a flush on the way: the server's table has its client as the writer of the file; and behind a release of a file no flush of
+-- it comes
+abbrev pub IsFlushed : ℕ → ℕ → List Holder → List ToServer → ToServer → Type 0
+IsFlushed n k holders behind m =
+    (ino : Ino) → (flushes_file k ino m ≡ true → list_any (writes_at n ino) holders ≡ true)
+    × (is_release k ino m ≡ true → list_any (flushes_file k ino) behind ≡ false)
 
--- Where the server has a connection of a client, each release on the way in it is of a file that the table has the client
--- write, and a file has one release there at most.
-abbrev pub LeavesAsWriter : View
-LeavesAsWriter n c up down s = IfSome (number_of s.current n) (λ k. AllLeaving n k s.holders up)
+abbrev pub AllFlushed : ℕ → ℕ → List Holder → List ToServer → Type 0
+AllFlushed n k holders [] = Unit {0}
+AllFlushed n k holders (m ∷ up) = IsFlushed n k holders up m × AllFlushed n k holders up
+
+-- Where the server has a connection of a client, each flush on the way in it is of a file that the table has the client write,
+-- and behind a file's release there is none of the file.
+abbrev pub FlushedIsWritten : View
+FlushedIsWritten n c up down s = IfSome (number_of s.current n) (λ k. AllFlushed n k s.holders up)
 
 -- the releases of a file among these are numbered up to this
 abbrev pub AllReleased : Ino → ℕ → List FlushMsg → Type 0

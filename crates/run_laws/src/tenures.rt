@@ -6,7 +6,7 @@ ghost use Rattle.step_table.specs.Legal.{Legal};
 ghost use Rattle.run_laws.specs.Moments.{world_after};
 ghost use Rattle.run_laws.specs.Links.{EachClient};
 ghost use Rattle.run_laws.specs.LetGo.{TableCoversGiven, GivenAfterRelease, LetGoIsRemembered, LetGoIsFree, DroppedIsFree, GrantIsAsked};
-ghost use Rattle.run_laws.specs.Tenures.{HeldIsMade, HeldOnce, GivenIsMade, AllHoldMade, EachOnce, AllAskMade, HeldMayWait, TableCovers, HeldAfterRelease, SomeIsRecalled, ReadersKeepNothing, SaysWriter, WriterIsKnown, LeavesAsWriter};
+ghost use Rattle.run_laws.specs.Tenures.{HeldIsMade, HeldOnce, GivenIsMade, AllHoldMade, EachOnce, AllAskMade, HeldMayWait, TableCovers, HeldAfterRelease, SomeIsRecalled, ReadersKeepNothing, SaysWriter, WriterIsKnown, FlushedIsWritten};
 
 /// What a client holds, and what a message on its way to it gives it, is a file that the durable entries made: no restart
 /// unmakes a file that is held. A client holds a file once.
@@ -68,10 +68,11 @@ pub fn who_writes_in_the_table_is_known()
     ensures { (script : Script) (history : List Event) → Legal history script → EachClient WriterIsKnown (world_after script history) }
 {}
 
-/// Who releases a file is its writer for the server still: where it has a connection of a client, each release on the way in
-/// that connection is of a file that its table has the client hold for Write. A file has one release on the way there at most.
-pub fn what_is_released_is_written_in_the_table()
-    ensures { (script : Script) (history : List Event) → Legal history script → EachClient LeavesAsWriter (world_after script history) }
+/// Who flushes a file is its writer for the server: where it has a connection of a client, each flush on the way in that
+/// connection, a release too, is of a file that its table has the client hold for Write. Behind a release of a file no flush
+/// of the file is on the way there.
+pub fn what_is_flushed_is_written_in_the_table()
+    ensures { (script : Script) (history : List Event) → Legal history script → EachClient FlushedIsWritten (world_after script history) }
 {}
 
 /// A client holds a file again only when its release is durable: where it holds a file, all its earlier releases of the file
