@@ -21,6 +21,7 @@ mod Gives
 mod Giving
 mod Granting
 mod Growing
+mod Hearing
 mod Held
 mod Holders
 mod Holds

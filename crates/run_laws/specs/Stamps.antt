@@ -9,6 +9,7 @@ use Rattle.plain_types.specs.declared.message.ToClient.{ToClient}
 use Rattle.plain_tree.specs.History.{stamp_of}
 use Rattle.plain_journal.specs.Entries.{applied}
 use Rattle.step_table.specs.Legal.{sent_between}
+use Rattle.run_laws.specs.Links.{View}
 
 -- a message of the server to a client
 abbrev pub told_by : Message → Option ToClient
@@ -40,3 +41,15 @@ IsStampOf entries told = (entry_of told ≤ length entries) × ((stamp_of told).
 abbrev pub AllStampsOf : List Entry → List ToClient → Type 0
 AllStampsOf entries [] = Unit {0}
 AllStampsOf entries (told ∷ more) = IsStampOf entries told × AllStampsOf entries more
+
+-- messages with stamps of these entries that never fall, from one number of entries to another
+abbrev pub StampsRise : List Entry → ℕ → ℕ → List ToClient → Type 0
+StampsRise entries low high [] = low ≤ high
+StampsRise entries low high (told ∷ more) =
+    (low ≤ entry_of told) × (entry_of told ≤ high) × ((stamp_of told).snap.0 ≡ applied (take (entry_of told) entries))
+    × StampsRise entries (entry_of told) high more
+
+-- From the last stamp that a client heard on, the stamps on the way to it never fall, and none counts more entries than are
+-- durable. The last one of its own connection that it heard isn't above the last one at all.
+abbrev pub HearsRising : View
+HearsRising n c up down s = (c.heard.own ≤ c.heard.any) × StampsRise s.entries c.heard.any s.durable down

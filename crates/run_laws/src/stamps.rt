@@ -4,8 +4,9 @@ ghost use Rattle.plain_types.specs.declared.history.Event.{Event};
 ghost use Rattle.plain_types.specs.declared.script.Script.{Script};
 ghost use Rattle.step_table.specs.Legal.{Legal};
 ghost use Rattle.step_table.specs.World.{journal};
+ghost use Rattle.run_laws.specs.Links.{EachClient};
 ghost use Rattle.run_laws.specs.Moments.{world_after};
-ghost use Rattle.run_laws.specs.Stamps.{told_in, sent_to, entry_of, NeverFall, AllStampsOf};
+ghost use Rattle.run_laws.specs.Stamps.{told_in, sent_to, entry_of, NeverFall, AllStampsOf, HearsRising};
 
 /// What the server tells a client is told in the order in which it was made: the numbers of entries that the messages are
 /// stamped with never fall.
@@ -18,4 +19,12 @@ pub fn stamps_never_fall()
 pub fn what_is_told_is_durable()
     ensures { (script : Script) (history : List Event) (event : Event) → Legal (history ++ event ∷ []) script → event.node ≡ 0
         → AllStampsOf (journal (world_after script (history ++ event ∷ []))) (told_in event.sent) }
+{}
+
+/// What a client hears never falls back: from the entry stamp of the last message that it took on, the stamps of what is on
+/// its way never fall, and each is one of the durable entries: it counts no more than there are, and names the last snapshot
+/// that those made. So what it has heard is durable itself. The last stamp that it heard by its own connection isn't above
+/// the last one that it heard at all.
+pub fn what_a_client_hears_rises()
+    ensures { (script : Script) (history : List Event) → Legal history script → EachClient HearsRising (world_after script history) }
 {}
