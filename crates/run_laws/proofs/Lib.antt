@@ -1,4 +1,4 @@
-mod Acts
+pub mod Acts
 mod Apart
 mod Asked
 mod Bounding
@@ -20,14 +20,14 @@ mod Freed
 mod Gives
 mod Giving
 mod Granting
-mod Growing
+pub mod Growing
 mod Hearing
 mod Held
 mod Holders
 mod Holds
 mod Kept
-mod Knowing
-mod Known
+pub mod Knowing
+pub mod Known
 mod Lasting
 mod Leaving
 mod Lending
@@ -35,7 +35,7 @@ mod Link
 mod Linked
 mod Mail
 mod Makes
-mod Moves
+pub mod Moves
 mod Numbering
 mod Once
 mod Operations
@@ -48,10 +48,10 @@ mod Recalling
 mod Releasing
 mod Requested
 mod Returning
-mod Rises
+pub mod Rises
 mod Rooted
 mod Rounds
-mod Ruled
+pub mod Ruled
 mod Seats
 mod Sending
 mod Serving
@@ -66,7 +66,7 @@ mod Told
 mod Turning
 mod Turns
 mod ViewActs
-mod Views
+pub mod Views
 mod Waiting
 mod When
 mod Whose
