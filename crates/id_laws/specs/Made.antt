@@ -1,4 +1,4 @@
--- That the ids of snapshots which the server and its clients name are of snapshots that were made.
+-- That the server and its clients name no snapshot before it is made.
 use Rattle.std.specs.Prelude.{ℕ, List, take}
 use Rattle.std.specs.List.{AllByRecursion}
 use Rattle.plain_types.specs.declared.entry.Entry.{Entry}
@@ -27,6 +27,6 @@ durably_applied s = applied (take s.durable s.entries)
 abbrev pub KeepsMade : View
 KeepsMade n c up down s = KeepsUpto (durably_applied s) c
 
--- What is on its way from a client does.
+-- What is on its way from a client names snapshots that the durable entries made.
 abbrev pub SaysMade : View
 SaysMade n c up down s = AllByRecursion (SaidUpto (durably_applied s)) up
