@@ -279,7 +279,7 @@ hand_is n c s a o all of it kept h is mine_it = (same.1, subst (λ (t : ℕ). ke
     same = same_asked (open_request c.under) h a (hand_it n (open_request c.under) s h all is mine_it) (it mine_a)
 
 -- one more entry by a request
-buffer_same : (s : Server) (e : Entry) → ((buffer s e).entries ≡ s.entries ++ e ∷ []) × ((buffer s e).hand ≡ s.hand)
+pub buffer_same : (s : Server) (e : Entry) → ((buffer s e).entries ≡ s.entries ++ e ∷ []) × ((buffer s e).hand ≡ s.hand)
 buffer_same s e = notices_keep (λ (t : Server). (t.entries ≡ s.entries ++ e ∷ []) × (t.hand ≡ s.hand)) (λ t x inos so. by_number t x inos so (number_of t.current x)) s.entries (up_to s.clients) (record s { entries = s.entries ++ e ∷ [] }) (refl, refl)
   where
     by_number : (t : Server) (x : ℕ) (inos : List Ino) → (t.entries ≡ s.entries ++ e ∷ []) × (t.hand ≡ s.hand) → (o : Option ℕ) → (let u = tell_at t x (Changed inos) o in (u.entries ≡ s.entries ++ e ∷ []) × (u.hand ≡ s.hand))
@@ -419,7 +419,7 @@ brings_good n c up down s x conn (Some r) all is =
 rolled_none : (n tid : ℕ) (s : Server) (id : SnapId) → kept_of n tid s.entries ≡ None → kept_of n tid (act s (roll_back id)).entries ≡ None
 rolled_none n tid s id none = ap (kept_of n tid) (buffer_same s (own_entry (Rollback id))).0 ∙ kept_more n tid s.entries (own_entry (Rollback id)) refl ∙ none
 
-change_no_cap : (state : State) (x : ℕ) (id : SnapId) (asked : Request) → IfSome (change_asked state x id asked) (λ r. asks_capability asked ≡ false)
+pub change_no_cap : (state : State) (x : ℕ) (id : SnapId) (asked : Request) → IfSome (change_asked state x id asked) (λ r. asks_capability asked ≡ false)
 change_no_cap state x id (request.Cap ino mode) = tt
 change_no_cap state x id asked = any_some (change_asked state x id asked) refl
   where

@@ -53,7 +53,7 @@ pub all_drop : (n : ℕ) (o : Option (ℕ × Request)) (xs : List Asked) → All
 all_drop n o [] all = tt
 all_drop n o (a ∷ xs) all = all.1
 
-count_drop : (n : ℕ) (xs : List Asked) → count n (as_list (first_of xs)) + count n (drop 1 xs) ≤ count n xs
+pub count_drop : (n : ℕ) (xs : List Asked) → count n (as_list (first_of xs)) + count n (drop 1 xs) ≤ count n xs
 count_drop n [] = omega arith
 count_drop n (a ∷ xs) = by_test (of_client n a)
   where

@@ -302,7 +302,7 @@ mail_none n conn gone kept entries x never counted (m ∷ mail) all = one m.1.to
         by_test false is = rest
     one to y after rest = rest
 
-next_number : (n : ℕ) (c : Client) (down : List ToClient) (s : Server) (W : ℕ → Type 0) (f : FlushMsg) (rest : List FlushMsg) → f ∷ rest ≡ above (last_flush s.entries n) c.unacked → In n c.flushes c.unacked W down s → f.number ≡ last_flush s.entries n + 1
+pub next_number : (n : ℕ) (c : Client) (down : List ToClient) (s : Server) (W : ℕ → Type 0) (f : FlushMsg) (rest : List FlushMsg) → f ∷ rest ≡ above (last_flush s.entries n) c.unacked → In n c.flushes c.unacked W down s → f.number ≡ last_flush s.entries n + 1
 next_number n c down s W f rest same fl = (subst (Follow (last_flush s.entries n) c.flushes) (sym same) (follows_last n c.flushes c.unacked W down s.entries s.durable s.mail fl)).0
 
 release_none : (n : ℕ) (c : Client) (up : List ToServer) (down : List ToClient) (s : Server) (W : ℕ → Type 0) (f : FlushMsg) (rest : List FlushMsg) (x : Ino) → f ∷ rest ≡ above (last_flush s.entries n) c.unacked → In n c.flushes c.unacked W down s → (f.release && is_ino x f.ino) ≡ true → Letting n c up down s → Covered c.conn (gone_in c.under) c.files (down ++ mail_of n s.mail) x 0

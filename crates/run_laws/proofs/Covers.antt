@@ -11,20 +11,18 @@ use Rattle.plain_types.specs.declared.answer.Answer.TheVariants as answer
 use Rattle.plain_types.specs.declared.history.Event.{Event}
 use Rattle.plain_types.specs.declared.message.ToClient.{ToClient}
 use Rattle.plain_types.specs.declared.message.ToClient.TheVariants.{Reply, Grant}
-use Rattle.plain_types.specs.declared.message.ToServer.{ToServer}
 use Rattle.plain_types.specs.declared.script.Script.{Script}
 use Rattle.held_files.specs.Files.{HeldFiles, is_ino, is_held, is_writer, is_write}
 use Rattle.step_table.specs.ServerState.{Holder, is_holder, is_writer as writes_at, number_of}
-use Rattle.step_table.specs.ClientState.{Client}
 use Rattle.run_laws.specs.Links.{EachClient, mail_of}
 use Rattle.run_laws.specs.Moments.{steps_of, world_after}
-use Rattle.run_laws.specs.Tenures.{InTable, HeldInTable, GrantInTable, AllGrantsInTable, TableCovers, HeldAfterRelease, gone_in, SaysWriterIn, SaysWriterAt, AllSayWriter, SaysWriter, is_release, wants_write, WriterIsKnown}
+use Rattle.run_laws.specs.Tenures.{InTable, HeldInTable, GrantInTable, AllGrantsInTable, TableCovers, HeldAfterRelease, gone_in, SaysWriterIn, SaysWriterAt, AllSayWriter, SaysWriter}
 use Rattle.run_laws.proofs.Files.{has_writer, has_reader, held_not}
 use Rattle.run_laws.proofs.Linked.{each_part}
 use Rattle.run_laws.proofs.Pairs.{sharers_hold}
-use Rattle.run_laws.proofs.Shares.{rank, has, shares, gives, AllGive, writer_two}
+use Rattle.run_laws.proofs.Shares.{rank, has, shares, gives, AllGive}
 use Rattle.run_laws.proofs.Sharers.{Sharer}
-use Rattle.run_laws.proofs.Sharing.{Covered, CoverBy, Says, SaysIn, SaysAt, AllSay, Writes, WritersBy}
+use Rattle.run_laws.proofs.Sharing.{Covered, CoverBy, Says, SaysIn, SaysAt, AllSay}
 
 -- a share of the table is a holder's
 pub share_any : (n : ℕ) (ino : Ino) (holders : List Holder) → 1 ≤ shares n ino holders → list_any (is_holder n ino) holders ≡ true
@@ -91,7 +89,7 @@ released_law script history = each_part Sharer HeldAfterRelease (world_after scr
     either ino files is (inr all) = all
 
 -- who writes, by the answers on the way
-held_writer : (ino : Ino) (files : HeldFiles) → 2 ≤ has ino files → is_writer ino files ≡ true
+pub held_writer : (ino : Ino) (files : HeldFiles) → 2 ≤ has ino files → is_writer ino files ≡ true
 held_writer ino files two = by_test (is_writer ino files) refl
   where
     by_test : (b : Bool) → is_writer ino files ≡ b → b ≡ true
@@ -124,15 +122,3 @@ say_writer conn gone files (m ∷ p) all = (one m all.0, say_writer conn gone fi
 pub says_law : (script : Script) (history : List Event) → EachClient SaysWriter (world_after script history)
 says_law script history = each_part Sharer SaysWriter (world_after script history)
     (λ n c up down s so. say_writer c.conn (gone_in c.under) c.files (down ++ mail_of n s.mail) so.1.0.says) (sharers_hold script (steps_of history))
-
-pub known_law : (script : Script) (history : List Event) → EachClient WriterIsKnown (world_after script history)
-known_law script history = each_part Sharer WriterIsKnown (world_after script history)
-    (λ n c up down s so. known n c up s.holders (number_of s.current n) so.1.0.writers) (sharers_hold script (steps_of history))
-  where
-    either : (c : Client) (up : List ToServer) (k : ℕ) (ino : Ino) → Writes c.files c.under up k ino → (is_writer ino c.files ≡ true) ⊎ ((list_any (is_release k ino) up ≡ true) ⊎ (wants_write ino c.under ≡ true))
-    either c up k ino (inl two) = inl (held_writer ino c.files two)
-    either c up k ino (inr other) = inr other
-
-    known : (n : ℕ) (c : Client) (up : List ToServer) (holders : List Holder) (o : Option ℕ) → WritersBy c.files c.under up (λ ino. shares n ino holders) o → IfSome o (λ k. (ino : Ino) → list_any (writes_at n ino) holders ≡ true → (is_writer ino c.files ≡ true) ⊎ ((list_any (is_release k ino) up ≡ true) ⊎ (wants_write ino c.under ≡ true)))
-    known n c up holders None writers = tt
-    known n c up holders (Some k) writers = λ ino any. either c up k ino (writers ino (writer_two n ino holders any))

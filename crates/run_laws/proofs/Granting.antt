@@ -194,7 +194,7 @@ own_most n x ino most holders b of mine_b less = subst (λ (y : ℕ). shares y i
 abbrev NotAsked : ℕ → Client → ℕ → Type 0
 NotAsked n c x = (x == n) ≡ true → (ino : Ino) → wants_write ino c.under ≡ false
 
-not_asked : (under : Under) (tid : ℕ) (asked : Request) (ino : Ino) → IsIt (open_request under) tid asked → asks_write ino asked ≡ false → wants_write ino under ≡ false
+pub not_asked : (under : Under) (tid : ℕ) (asked : Request) (ino : Ino) → IsIt (open_request under) tid asked → asks_write ino asked ≡ false → wants_write ino under ≡ false
 not_asked Idle tid asked ino it none = absurd it
 not_asked (AtStore number entry file head) tid asked ino it none = absurd it
 not_asked (Open number open_tid text wanted gone) tid asked ino it none = sym (ap (asks_write ino) it.1) ∙ none

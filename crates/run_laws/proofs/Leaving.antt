@@ -76,7 +76,7 @@ abbrev pub Leaving : View
 Leaving n c up down s = LeaveBy (λ ino. shares n ino s.holders) up (number_of s.current n)
 
 -- another table, and another list
-first_or : (a b : Bool) → a ≡ true → (a || b) ≡ true
+pub first_or : (a b : Bool) → a ≡ true → (a || b) ≡ true
 first_or true b is = refl
 first_or false b is = absurd (true≢false (sym is))
 
@@ -217,7 +217,7 @@ behind_none o j k ino [] is = refl
 behind_none o j k ino (Connect conn said flushes asked ∷ up) is = behind_none o (j + 1) k ino up is.1
 behind_none o j k ino (m ∷ up) is = absurd is
 
-came_asking : (n x : ℕ) (c : Client) (said : List Claim) (flushes : List FlushMsg) (up : List ToServer) (down : List ToClient) (s : Server) → Asking n c up down s → Asking n c up down (acts s (come_back s x said flushes))
+pub came_asking : (n x : ℕ) (c : Client) (said : List Claim) (flushes : List FlushMsg) (up : List ToServer) (down : List ToClient) (s : Server) → Asking n c up down s → Asking n c up down (acts s (come_back s x said flushes))
 came_asking n x c said flushes up down s asks = acts_keep {F = AnyOf n c} {Q = Asking n c up down} (λ t a fit all. asking.one n c up down t a fit all) (come_back s x said flushes) s (any_of n c s (come_back s x said flushes)) asks
 
 own_connect : (n : ℕ) (c : Client) (conn : ℕ) (said : List Claim) (flushes : List FlushMsg) (asked : Option (ℕ × Request)) (up : List ToServer) (down : List ToClient) (s : Server) → Known n c (Connect conn said flushes asked ∷ up) down s → Server's Leaving n c up down (on_take s n (Connect conn said flushes asked))

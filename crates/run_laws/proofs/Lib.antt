@@ -1,6 +1,7 @@
 pub mod Acts
 mod Apart
 mod Asked
+mod Awaiting
 mod Bounding
 mod Carried
 mod Channels
@@ -19,6 +20,7 @@ mod Fitting
 mod Freed
 mod Gives
 mod Giving
+mod Granted
 mod Granting
 pub mod Growing
 mod Hearing

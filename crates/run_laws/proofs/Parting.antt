@@ -323,7 +323,7 @@ again_frees files Idle frees = tt
 again_frees files (AtStore number entry ino head) frees = tt
 again_frees files (Open number tid text asked gone) frees = (λ ino is. absurd (true≢false (sym is)), free_again files gone asked frees.1)
 
-again_wants : (ino : Ino) (under : Under) → wants_write ino (sent_again under) ≡ wants_write ino under
+pub again_wants : (ino : Ino) (under : Under) → wants_write ino (sent_again under) ≡ wants_write ino under
 again_wants ino Idle = refl
 again_wants ino (AtStore number entry file head) = refl
 again_wants ino (Open number tid text asked gone) = refl
@@ -525,7 +525,7 @@ frees_let_go files (Open number tid text asked gone) ino once some frees = ((λ 
     by_place y (inl is) = none_without y ino files once is
     by_place y (inr is) = let few = less_without y ino files once in let zero = frees.0 y is in omega (arith, few, zero)
 
-still_wants : (x ino : Ino) (under : Under) → wants_write x (with_let_go ino under) ≡ wants_write x under
+pub still_wants : (x ino : Ino) (under : Under) → wants_write x (with_let_go ino under) ≡ wants_write x under
 still_wants x ino Idle = refl
 still_wants x ino (AtStore number entry file head) = refl
 still_wants x ino (Open number tid text asked gone) = refl

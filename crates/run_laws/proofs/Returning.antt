@@ -263,11 +263,11 @@ brought_left n low files (f ∷ fs) t free was =
         (left_settled n low files (acts t (take_flush n t f)) f (left_taken n low files t f (λ ino. first ino (free ino)) was))
 
 -- and raise no share
-abbrev AllFall : List Act → Type 0
+abbrev pub AllFall : List Act → Type 0
 AllFall [] = Unit {0}
 AllFall (a ∷ list) = NoRise a × AllFall list
 
-fall_acts : (n : ℕ) (ino : Ino) (list : List Act) (t : Server) → AllFall list → shares n ino (acts t list).holders ≤ shares n ino t.holders
+pub fall_acts : (n : ℕ) (ino : Ino) (list : List Act) (t : Server) → AllFall list → shares n ino (acts t list).holders ≤ shares n ino t.holders
 fall_acts n ino [] t all = omega arith
 fall_acts n ino (a ∷ list) t all = let rest = fall_acts n ino list (act t a) all.1 in let one = fall_act n t a all.0 ino in omega (arith, rest, one)
 

@@ -276,12 +276,12 @@ turn_fine n c s None one two = tt
 turn_fine n c s (Some list) one two = both_fit (Fits n) (MyFit n c) list s one two
 
 -- The rows of the client. What is open for Write is given for Write by its answer.
-wants_open : (ino : Ino) (under : Under) → open_request under ≡ None → wants_write ino under ≡ true → ⊥
+pub wants_open : (ino : Ino) (under : Under) → open_request under ≡ None → wants_write ino under ≡ true → ⊥
 wants_open ino Idle none wants = true≢false (sym wants)
 wants_open ino (AtStore number entry file head) none wants = true≢false (sym wants)
 wants_open ino (Open number tid text asked gone) none wants = cc
 
-wants_cap : (ino : Ino) (under : Under) → IfSome (open_request under) (λ r. asks_capability r.1 ≡ false) → wants_write ino under ≡ true → ⊥
+pub wants_cap : (ino : Ino) (under : Under) → IfSome (open_request under) (λ r. asks_capability r.1 ≡ false) → wants_write ino under ≡ true → ⊥
 wants_cap ino (Open number tid text (request.Cap file mode) gone) not_cap wants = true≢false not_cap
 wants_cap ino under not_cap wants = true≢false (sym wants)
 

@@ -1,5 +1,5 @@
 -- Which files are held: by what the clients count, by what is on its way to them, and by the server's table.
-use Rattle.std.specs.Prelude.{◌≡◌, ◌<◌, ◌≤◌, ℕ, Bool, false, true, ◌&&◌, ◌==◌, List, [], ◌∷◌, ◌++◌, take, Option, None, Some, IfSome, is_some, ◌⊎◌}
+use Rattle.std.specs.Prelude.{◌+◌, ◌≡◌, ◌<◌, ◌≤◌, ℕ, Bool, false, true, ◌&&◌, ◌==◌, List, [], ◌∷◌, ◌++◌, take, Option, None, Some, IfSome, is_some, ◌⊎◌}
 use Rattle.std.specs.List.{list_any}
 use Rattle.snap_ids.specs.declared.id.Ino.{Ino}
 use Rattle.snap_ids.specs.declared.values.Mode.{Mode}
@@ -18,10 +18,11 @@ use Rattle.plain_journal.specs.Entries.{state_after}
 use Rattle.plain_journal.specs.Legal.{is_made_file}
 use Rattle.plain_journal.specs.Table.{barrier, last_flush}
 use Rattle.held_files.specs.Files.{HeldFile, HeldFiles, is_ino, is_held, is_writer, is_write}
-use Rattle.step_table.specs.ServerState.{Asked, Holder, number_of, is_holder, is_writer as writes_at, all_connected}
-use Rattle.step_table.specs.Acts.{of_client}
+use Rattle.step_table.specs.ServerState.{Asked, Holder, Server, number_of, is_holder, is_writer as writes_at, all_connected}
+use Rattle.step_table.specs.Acts.{of_client, as_list}
 use Rattle.step_table.specs.ClientState.{Under, Open}
 use Rattle.run_laws.specs.Links.{View, mail_of}
+use Rattle.run_laws.specs.Requests.{count, asks}
 
 -- the entries made this file
 abbrev pub IsMade : List Entry → Ino → Type 0
@@ -174,12 +175,17 @@ abbrev pub wants_write : Ino → Under → Bool
 wants_write ino (Open number tid text asked let_go) = asks_write ino asked
 wants_write ino under = false
 
+-- no request of a client is on the way to the server, or waits at it
+abbrev pub IsTreated : ℕ → List ToServer → Server → Type 0
+IsTreated n up s = asks up + (count n s.held + count n s.deferred + count n (as_list s.operation)) ≡ 0
+
 -- Where the server's table has a client as the writer of a file, the client writes it, or its release is on the way, or it
--- has asked for it.
+-- has asked for it and its request is treated.
 abbrev pub WriterIsKnown : View
 WriterIsKnown n c up down s =
     IfSome (number_of s.current n) (λ k. (ino : Ino) → list_any (writes_at n ino) s.holders ≡ true
-    → (is_writer ino c.files ≡ true) ⊎ ((list_any (is_release k ino) up ≡ true) ⊎ (wants_write ino c.under ≡ true)))
+    → (is_writer ino c.files ≡ true)
+    ⊎ ((list_any (is_release k ino) up ≡ true) ⊎ ((wants_write ino c.under ≡ true) × IsTreated n up s)))
 
 -- a message of a connection is a flush of a file
 abbrev pub flushes_file : ℕ → Ino → ToServer → Bool

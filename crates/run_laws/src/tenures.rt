@@ -63,7 +63,7 @@ pub fn an_answer_says_whether_its_client_writes()
 
 /// The server takes nobody for a writer without reason: where it has a connection of a client, and its table has the client
 /// with a file for Write, the client holds the file for Write, or a release of the file is on the way in that connection, or
-/// the client's open request is for the file for Write.
+/// the client's open request is for the file for Write and is granted: it is neither on its way to the server nor kept there.
 pub fn who_writes_in_the_table_is_known()
     ensures { (script : Script) (history : List Event) → Legal history script → EachClient WriterIsKnown (world_after script history) }
 {}
