@@ -1,8 +1,9 @@
 -- What a client hears is stamped with durable entries, and the stamps never fall, along each run.
-use Rattle.std.proofs.Common.{◌≡◌, ◌≤◌, ℕ, ◌+◌, List, [], ◌∷◌, ◌++◌, length, take, Bool, true, false, not, cond, Option, None, Some, refl, sym, ap, ◌∙◌, subst, IfSome, arith}
+use Rattle.std.proofs.Common.{◌≡◌, ◌≤◌, ℕ, ◌+◌, List, [], ◌∷◌, ◌++◌, length, take, Bool, true, false, not, cond, Option, None, Some, refl, sym, ap, ◌∙◌, subst, IfSome, arith, ◌<◌, ◌≢◌, true≢false}
 use Rattle.std.proofs.lemmas.List.{length-take-le}
-use Rattle.std.specs.Prelude.{◌==◌, ◌&&◌, nat_le, Result, Ok, Err}
+use Rattle.std.specs.Prelude.{◌==◌, ◌&&◌, nat_le, Result, Ok, Err, nat_lt, is_none, ◌||◌}
 use Rattle.std.specs.List.{list_any, cons_option}
+use Rattle.snap_ids.specs.declared.id.TheConstants.{NOSNAP}
 use Rattle.snap_ids.specs.declared.id.Ino.{Ino}
 use Rattle.snap_ids.specs.declared.values.Mode.{Mode}
 use Rattle.snap_ids.specs.declared.values.Mode.TheVariants.{Read, Write}
@@ -27,6 +28,7 @@ use Rattle.plain_types.specs.declared.request.Request.TheVariants as request
 use Rattle.plain_types.specs.declared.script.Line.{Line}
 use Rattle.plain_types.specs.declared.script.Line.TheVariants as line
 use Rattle.plain_types.specs.declared.script.Script.{Script}
+use Rattle.plain_tree.specs.History.{stamp_of}
 use Rattle.plain_tree.specs.State.{Handle}
 use Rattle.plain_tree.specs.Line.{request_of, data_change}
 use Rattle.plain_journal.specs.Entries.{applied}
@@ -36,18 +38,23 @@ use Rattle.held_files.specs.Due.{first_due, sent}
 use Rattle.held_files.specs.Files.{Item, OfPiece, OfMark, file_of, is_ino, is_held, is_writer}
 use Rattle.step_table.specs.Messages.{to_client_fits, from_store_fits}
 use Rattle.step_table.specs.Row.{Row}
-use Rattle.step_table.specs.ServerState.{Server}
+use Rattle.step_table.specs.ServerState.{Server, number_of}
 use Rattle.step_table.specs.ServerRows.{on_take, on_report, on_commit, on_restart, on_tend}
-use Rattle.step_table.specs.ClientState.{Client, Heard, Under, Idle, Open, AtStore, Edit, edit_of, stays, asks, edits, reads_head, replies}
+use Rattle.step_table.specs.ClientState.{Client, Heard, Under, Idle, Open, AtStore, Edit, edit_of, stays, asks, edits, reads_head, replies, new_client}
 use Rattle.step_table.specs.ClientLines.{edit_file, edit_line, read_line, opened, begin_asked, begin_other, begin_with, begin, may_begin, op_of, on_op, on_flush, send_item, send_due, sends_due, unsent_in, file_due, reading}
-use Rattle.step_table.specs.ClientTakes.{is_own, having_heard, may_take, goes_on, granted, asks_for, take_grant, with_found, found, asks_anew, wants_bytes, take_answer, takes_answer, take_reply, take_own, acked, on_told, key_of, is_key, store_answer, take_read, take_stored, on_stored}
-use Rattle.step_table.specs.World.{start, to_clients, told_to}
-use Rattle.run_laws.specs.Links.{View, EachClient, mine}
+use Rattle.step_table.specs.ClientTakes.{is_own, having_heard, may_take, goes_on, granted, asks_for, take_grant, with_found, found, asks_anew, wants_bytes, take_answer, takes_answer, take_reply, take_own, acked, on_told, key_of, is_key, store_answer, take_read, take_stored, on_stored, conn_of}
+use Rattle.step_table.specs.World.{start, to_clients, told_to, lines_of}
+use Rattle.std.proofs.lemmas.Bool.Decides.{nat_tests}
+use Rattle.run_laws.proofs.ViewActs.{rows_of_acts, all_fit}
+use Rattle.run_laws.proofs.Taking.{KeptBefore, joined, alone}
+use Rattle.run_laws.proofs.Link.{flowing}
+use Rattle.run_laws.proofs.Lending.{Opens, op_opens}
+use Rattle.run_laws.specs.Links.{View, EachClient, mine, Offer, offer, mark, IsNow, mail_of}
 use Rattle.run_laws.specs.Moments.{steps_of, world_after}
-use Rattle.run_laws.specs.Stamps.{told_by, entry_of, StampsRise, HearsRising}
-use Rattle.run_laws.proofs.Clients.{updated_same}
+use Rattle.run_laws.specs.Stamps.{told_by, entry_of, StampsRise, HearsRising, HearsOwn}
+use Rattle.run_laws.proofs.Clients.{updated_same, store_hidden, flush_acts, Keeps as FlushActs}
 use Rattle.run_laws.proofs.Growing.{Begins, begins_gives, take_take}
-use Rattle.run_laws.proofs.Linked.{at_start, each_part}
+use Rattle.run_laws.proofs.Linked.{at_start, each_part, OpenLinked, linked, first_link}
 use Rattle.run_laws.proofs.Mail.{Mailed, GoneAt, Gone, HandedOut, mailed_gives}
 use Rattle.run_laws.proofs.Stamped.{start_mailed}
 use Rattle.run_laws.proofs.Views.{Client's, Server's, KeptByRows, run_keeps}
@@ -95,12 +102,8 @@ gone_rise n entries low high (m ∷ sent) gone = by_message m.to m.message gone 
     by_message to (message.FromStore said) gone go = go low gone
 
 -- A row of the server: what was on the way keeps its stamps, and what goes is stamped behind it.
-served : (n : ℕ) (c : Client) (down : List ToClient) (b : Bool) (s : Server) (r : Row Server) → s.durable ≤ length s.entries → HandedOut b s r → Begins (take s.durable s.entries) r.state.entries r.state.durable → StampsRise s.entries c.heard.any s.durable down
-    → StampsRise r.state.entries c.heard.any r.state.durable (down ++ mine n (to_clients r.sent))
-served n c down b s r fits out begins all =
-    rise_append r.state.entries c.heard.any s.durable r.state.durable down (mine n (to_clients r.sent))
-    (rise_more s.entries r.state.entries c.heard.any s.durable s.durable down (omega arith) same all)
-    (gone_rise n r.state.entries s.durable r.state.durable r.sent out.1) (gone_most r.state.entries s.durable r.state.durable r.sent out.1)
+front_same : (s : Server) (r : Row Server) → s.durable ≤ length s.entries → Begins (take s.durable s.entries) r.state.entries r.state.durable → (k : ℕ) → k ≤ s.durable → take k r.state.entries ≡ take k s.entries
+front_same s r fits begins k less = sym (take_take k s.durable r.state.entries less least) ∙ ap (take k) front ∙ take_take k s.durable s.entries less fits
   where
     long : length (take s.durable s.entries) ≡ s.durable
     long = length-take-le s.durable s.entries fits
@@ -111,8 +114,12 @@ served n c down b s r fits out begins all =
     least : s.durable ≤ length r.state.entries
     least = let kept = begins.kept in let most = begins.fits in omega (arith, long, kept, most)
 
-    same : (k : ℕ) → k ≤ s.durable → take k r.state.entries ≡ take k s.entries
-    same k less = sym (take_take k s.durable r.state.entries less least) ∙ ap (take k) front ∙ take_take k s.durable s.entries less fits
+served : (n : ℕ) (c : Client) (down : List ToClient) (b : Bool) (s : Server) (r : Row Server) → s.durable ≤ length s.entries → HandedOut b s r → Begins (take s.durable s.entries) r.state.entries r.state.durable → StampsRise s.entries c.heard.any s.durable down
+    → StampsRise r.state.entries c.heard.any r.state.durable (down ++ mine n (to_clients r.sent))
+served n c down b s r fits out begins all =
+    rise_append r.state.entries c.heard.any s.durable r.state.durable down (mine n (to_clients r.sent))
+    (rise_more s.entries r.state.entries c.heard.any s.durable s.durable down (omega arith) (front_same s r fits begins) all)
+    (gone_rise n r.state.entries s.durable r.state.durable r.sent out.1) (gone_most r.state.entries s.durable r.state.durable r.sent out.1)
 
 -- The client: what it heard changes by what it takes from the server alone.
 heard_if : (c : Client) (b : Bool) (x y : Row Client) → x.state.heard ≡ c.heard → y.state.heard ≡ c.heard → (cond b x y).state.heard ≡ c.heard
@@ -276,3 +283,127 @@ hearing_rows = record {
 pub hearing_law : (script : Script) (history : List Event) → EachClient HearsRising (world_after script history)
 hearing_law script history = each_part Hearing HearsRising (world_after script history) (λ n c up down s all. all.1)
     (run_keeps Hearing hearing_rows (start script) (steps_of history) (at_start Hearing script (λ n is. (start_mailed script, (omega arith, omega arith)))))
+
+-- A client that isn't frozen heard the last message by its own connection.
+rise_most : (entries : List Entry) (low high : ℕ) (p : List ToClient) → StampsRise entries low high p → low ≤ high
+rise_most entries low high [] all = all
+rise_most entries low high (m ∷ p) all = let a = all.0 in let b = all.1 in omega (arith, a, b)
+
+abbrev Ground : View
+Ground n c up down s = OpenLinked n c up down s × Hearing n c up down s
+
+same_own : (n : ℕ) (c : Client) (up : List ToServer) (down : List ToClient) (s : Server) (r : Row Client) → c.frozen ≡ false → r.state.heard ≡ c.heard → HearsOwn n c up down s → Client's HearsOwn n up down s r
+same_own n c up down s r free same own_now = λ free_now. subst (λ (h : Heard). applied (take h.any s.entries) < NOSNAP.0 → h.own ≡ h.any) (sym same) (own_now free)
+
+row_own : (n : ℕ) (c : Client) (up : List ToServer) (down : List ToClient) (s : Server) (r : Row Server) → Begins (take s.durable s.entries) r.state.entries r.state.durable → Hearing n c up down s → HearsOwn n c up down s → Server's HearsOwn n c up down r
+row_own n c up down s r begins all own_now = λ free. subst (λ (l : List Entry). applied l < NOSNAP.0 → c.heard.own ≡ c.heard.any) (sym (front_same s r all.0.fits begins c.heard.any (rise_most s.entries c.heard.any s.durable down all.1.1))) (own_now free)
+
+if_row_own : (n : ℕ) (c : Client) (up : List ToServer) (down : List ToClient) (s : Server) (o : Option (Row Server)) → IfSome o (λ r. Begins (take s.durable s.entries) r.state.entries r.state.durable) → Hearing n c up down s → HearsOwn n c up down s → IfSome o (Server's HearsOwn n c up down)
+if_row_own n c up down s None begins all own_now = tt
+if_row_own n c up down s (Some r) begins all own_now = row_own n c up down s r begins all own_now
+
+-- a message that isn't its own's has no number, and freezes it
+is_now : (c : Client) (m : ToClient) → IsNow c.conn (mark m) → is_own c m ≡ false → (st : Stamp) × (m ≡ Restarted st)
+is_now c (Restarted st) now other = (st, refl)
+is_now c (Reply conn tid st said) now other = absurd (true≢false (sym (numbered now) ∙ other))
+  where
+    numbered : conn ≡ c.conn → (conn == c.conn) ≡ true
+    numbered is = grind (arith, nat_tests, is)
+is_now c (Grant conn tid st ino mode size file) now other = absurd (true≢false (sym (numbered now) ∙ other))
+  where
+    numbered : conn ≡ c.conn → (conn == c.conn) ≡ true
+    numbered is = grind (arith, nat_tests, is)
+is_now c (Recall conn st ino) now other = absurd (true≢false (sym (numbered now) ∙ other))
+  where
+    numbered : conn ≡ c.conn → (conn == c.conn) ≡ true
+    numbered is = grind (arith, nat_tests, is)
+is_now c (Notice conn st update) now other = absurd (true≢false (sym (numbered now) ∙ other))
+  where
+    numbered : conn ≡ c.conn → (conn == c.conn) ≡ true
+    numbered is = grind (arith, nat_tests, is)
+is_now c (FlushAck conn st number) now other = absurd (true≢false (sym (numbered now) ∙ other))
+  where
+    numbered : conn ≡ c.conn → (conn == c.conn) ≡ true
+    numbered is = grind (arith, nat_tests, is)
+is_now c (Welcome conn st last update) now other = absurd now
+
+-- one that isn't its own's leaves it as it was, or freezes it
+still_free : (c : Client) (m : ToClient) → is_own c m ≡ false → (on_told c m).state.frozen ≡ false → c.frozen ≡ false
+still_free c m other free = by_message m other free
+  where
+    numbered : (m : ToClient) → conn_of m ≢ None → is_own c m ≡ false → (on_told c m).state.frozen ≡ false → c.frozen ≡ false
+    numbered m some other free = by_test (is_none (conn_of m)) (is_own c m) refl other free
+      where
+        none : (o : Option ℕ) → is_none o ≡ true → o ≡ None
+        none None is = refl
+        none (Some k) is = absurd (true≢false (sym is))
+
+        by_test : (a b : Bool) → is_none (conn_of m) ≡ a → b ≡ false → (cond ((a || b) && to_client_fits m) (take_own (having_heard c m) m) (stays (having_heard c m))).state.frozen ≡ false → c.frozen ≡ false
+        by_test true b is other free = absurd (some (none (conn_of m) is))
+        by_test false true is other free = absurd (true≢false other)
+        by_test false false is other free = free
+
+    restarted : (st : Stamp) → (on_told c (Restarted st)).state.frozen ≡ false → c.frozen ≡ false
+    restarted st free = by_test (to_client_fits (Restarted st)) free
+      where
+        by_test : (b : Bool) → (cond b (take_own (having_heard c (Restarted st)) (Restarted st)) (stays (having_heard c (Restarted st)))).state.frozen ≡ false → c.frozen ≡ false
+        by_test true free = absurd (true≢false free)
+        by_test false free = free
+
+    by_message : (m : ToClient) → is_own c m ≡ false → (on_told c m).state.frozen ≡ false → c.frozen ≡ false
+    by_message (Restarted st) other free = restarted st free
+    by_message (Reply conn tid st said) other free = numbered (Reply conn tid st said) (λ is. cc) other free
+    by_message (Grant conn tid st ino mode size file) other free = numbered (Grant conn tid st ino mode size file) (λ is. cc) other free
+    by_message (Recall conn st ino) other free = numbered (Recall conn st ino) (λ is. cc) other free
+    by_message (Notice conn st update) other free = numbered (Notice conn st update) (λ is. cc) other free
+    by_message (FlushAck conn st number) other free = numbered (FlushAck conn st number) (λ is. cc) other free
+    by_message (Welcome conn st last update) other free = numbered (Welcome conn st last update) (λ is. cc) other free
+
+told_own : (n : ℕ) (c : Client) (up : List ToServer) (m : ToClient) (down : List ToClient) (s : Server) → Ground n c up (m ∷ down) s → Client's HearsOwn n up down s (on_told c m)
+told_own n c up m down s ground = λ free small. subst (λ (h : Heard). h.own ≡ h.any) (sym (told_heard c m)) (by_own (is_own c m) refl free (subst (λ (h : Heard). applied (take h.any s.entries) < NOSNAP.0) (told_heard c m) small))
+  where
+    restarts : (st : Stamp) → m ≡ Restarted st → (on_told c m).state.frozen ≡ false → applied (take (entry_of m) s.entries) < NOSNAP.0 → ⊥
+    restarts st is free small = by_test (nat_lt st.snap.0 NOSNAP.0) refl (subst (λ (x : ToClient). (on_told c x).state.frozen ≡ false) is free)
+      where
+        below : st.snap.0 < NOSNAP.0
+        below = subst (λ (k : ℕ). k < NOSNAP.0) (sym (subst (λ (x : ToClient). (stamp_of x).snap.0 ≡ applied (take (entry_of x) s.entries)) is ground.1.1.1.2)) (subst (λ (x : ToClient). applied (take (entry_of x) s.entries) < NOSNAP.0) is small)
+
+        above : (k top : ℕ) → k < top → nat_lt k top ≡ false → ⊥
+        above k top less isnt = grind (arith, nat_tests, less, isnt)
+
+        by_test : (b : Bool) → nat_lt st.snap.0 NOSNAP.0 ≡ b → (cond (b && true) (take_own (having_heard c (Restarted st)) (Restarted st)) (stays (having_heard c (Restarted st)))).state.frozen ≡ false → ⊥
+        by_test true test free = true≢false free
+        by_test false test free = above st.snap.0 NOSNAP.0 below test
+
+    by_own : (b : Bool) → is_own c m ≡ b → (on_told c m).state.frozen ≡ false → applied (take (entry_of m) s.entries) < NOSNAP.0 → cond b (entry_of m) c.heard.own ≡ entry_of m
+    by_own true test free small = refl
+    by_own false other free small = absurd (restarts unnumbered.0 unnumbered.1 free small)
+      where
+        unnumbered : (st : Stamp) × (m ≡ Restarted st)
+        unnumbered = is_now c m (flowing (offer c) up (number_of s.current n) (m ∷ (down ++ mail_of n s.mail)) (still_free c m other free) ground.0.1).down.0 other
+
+heeds : KeptBefore Ground HearsOwn
+heeds = record {
+  op = λ n c up down s a i. both_some (on_op c) (λ r. (c.frozen ≡ false) × Opens c r) (λ r. r.state.heard ≡ c.heard) (Client's HearsOwn n up down s) (λ r opens same. same_own n c up down s r opens.0 same i) (op_opens c c.lines) (op_heard c c.lines);
+  flush = λ n c up down s a i. both_some (on_flush c) (λ r. (c.frozen ≡ false) × FlushActs c r) (λ r. r.state.heard ≡ c.heard) (Client's HearsOwn n up down s) (λ r acts same. same_own n c up down s r acts.0 same i) (flush_acts c) (flush_heard c);
+  told = λ n c up m down s a i. told_own n c up m down s a;
+  stored = λ n c m up down s a i. λ free. subst (λ (h : Heard). applied (take h.any s.entries) < NOSNAP.0 → h.own ≡ h.any) (sym (stored_heard c m)) (i (sym (ap (λ (o : Offer). o.frozen) (store_hidden c m).state) ∙ free));
+  own = λ n c m up down s a i. row_own n c (m ∷ up) down s (on_take s n m) ((begins_gives (take s.durable s.entries)).takes s n m (begins_now s a.1.0)) a.1 i;
+  other = λ n x c m up down s isnt a i. row_own n c up down s (on_take s x m) ((begins_gives (take s.durable s.entries)).takes s x m (begins_now s a.1.0)) a.1 i;
+  reported = λ n c m up down s a i. row_own n c up down s (on_report s m) ((begins_gives (take s.durable s.entries)).reports s m (begins_now s a.1.0)) a.1 i;
+  committed = λ n c up down s a i. if_row_own n c up down s (on_commit s) ((begins_gives (take s.durable s.entries)).commits s (begins_now s a.1.0)) a.1 i;
+  tended = λ n c up down s a i. if_row_own n c up down s (on_tend s) ((begins_gives (take s.durable s.entries)).tends s (begins_now s a.1.0)) a.1 i;
+  restarted = λ n c up down s k a i. if_row_own n c up down s (on_restart s k) ((begins_gives (take s.durable s.entries)).restarts s k (begins_now s a.1.0)) a.1 i;
+}
+  where
+    both_some : {X : Type 0} (o : Option X) (P Q R : X → Type 0) → ((x : X) → P x → Q x → R x) → IfSome o P → IfSome o Q → IfSome o R
+    both_some None P Q R go p q = tt
+    both_some (Some x) P Q R go p q = go x p q
+
+abbrev Heeding : View
+Heeding n c up down s = Ground n c up down s × HearsOwn n c up down s
+
+pub own_law : (script : Script) (history : List Event) → EachClient HearsOwn (world_after script history)
+own_law script history = each_part Heeding HearsOwn (world_after script history) (λ n c up down s all. all.1)
+    (run_keeps Heeding (joined (joined (rows_of_acts OpenLinked linked (all_fit OpenLinked)) (alone hearing_rows)) heeds) (start script) (steps_of history)
+    (at_start Heeding script (λ n is. (((tt, first_link (new_client n (script.clients + 1) (lines_of n script.lines)) _ refl is), (start_mailed script, (omega arith, omega arith))), λ free small. refl))))

@@ -1,5 +1,6 @@
 -- What the server sends its clients, and the stamps in it.
-use Rattle.std.specs.Prelude.{◌≡◌, ◌≤◌, ℕ, List, [], ◌∷◌, length, take, filter_map, Option, None, Some}
+use Rattle.std.specs.Prelude.{◌≡◌, ◌≤◌, ◌<◌, ℕ, false, List, [], ◌∷◌, length, take, filter_map, Option, None, Some}
+use Rattle.snap_ids.specs.declared.id.TheConstants.{NOSNAP}
 use Rattle.plain_types.specs.declared.entry.Entry.{Entry}
 use Rattle.plain_types.specs.declared.history.Event.{Event}
 use Rattle.plain_types.specs.declared.history.Sent.{Sent}
@@ -53,3 +54,9 @@ StampsRise entries low high (told ∷ more) =
 -- durable. The last one of its own connection that it heard isn't above the last one at all.
 abbrev pub HearsRising : View
 HearsRising n c up down s = (c.heard.own ≤ c.heard.any) × StampsRise s.entries c.heard.any s.durable down
+
+-- A client that isn't frozen heard the last message by its own connection, where by that message's stamp fewer snapshots were
+-- made than there are ids for.
+abbrev pub HearsOwn : View
+HearsOwn n c up down s =
+    c.frozen ≡ false → applied (take c.heard.any s.entries) < NOSNAP.0 → c.heard.own ≡ c.heard.any

@@ -6,7 +6,7 @@ ghost use Rattle.step_table.specs.Legal.{Legal};
 ghost use Rattle.step_table.specs.World.{journal};
 ghost use Rattle.run_laws.specs.Links.{EachClient};
 ghost use Rattle.run_laws.specs.Moments.{world_after};
-ghost use Rattle.run_laws.specs.Stamps.{told_in, sent_to, entry_of, NeverFall, AllStampsOf, HearsRising};
+ghost use Rattle.run_laws.specs.Stamps.{told_in, sent_to, entry_of, NeverFall, AllStampsOf, HearsRising, HearsOwn};
 
 /// What the server tells a client is told in the order in which it was made: the numbers of entries that the messages are
 /// stamped with never fall.
@@ -27,4 +27,12 @@ pub fn what_is_told_is_durable()
 /// the last one that it heard at all.
 pub fn what_a_client_hears_rises()
     ensures { (script : Script) (history : List Event) → Legal history script → EachClient HearsRising (world_after script history) }
+{}
+
+/// A client that isn't frozen heard the last message by its own connection: from its Welcome on no message of another
+/// connection comes, and what comes without a connection, of a restart, freezes it. So its changes of bytes, which it makes
+/// when it isn't frozen, know of all the entries that it has heard of. It is said for as long as fewer than 2^62 snapshots were
+/// made by the stamp of that message: a client drops what names an id that can't be.
+pub fn who_is_not_frozen_hears_its_own_connection()
+    ensures { (script : Script) (history : List Event) → Legal history script → EachClient HearsOwn (world_after script history) }
 {}
