@@ -73,7 +73,7 @@ let_dropped conn asked gone ino (m ∷ up) all none any = by_place (let_dropped 
     by_place go (inl is) = (all.0 (asks_tail m up none) ino).0 is
     by_place go (inr is) = go is
 
-let_released : (conn : ℕ) (asked : Request) (gone : List Ino) (ino : Ino) (up : List ToServer) → AllLet conn asked gone up → asks up ≡ 0 → list_any (is_release conn ino) up ≡ true → (is_gone ino gone ≡ true) × (is_cap ino asked ≡ false)
+pub let_released : (conn : ℕ) (asked : Request) (gone : List Ino) (ino : Ino) (up : List ToServer) → AllLet conn asked gone up → asks up ≡ 0 → list_any (is_release conn ino) up ≡ true → (is_gone ino gone ≡ true) × (is_cap ino asked ≡ false)
 let_released conn asked gone ino [] all none any = absurd (true≢false (sym any))
 let_released conn asked gone ino (m ∷ up) all none any = by_place (let_released conn asked gone ino up all.1 (asks_tail m up none)) (either_true (is_release conn ino m) (list_any (is_release conn ino) up) any)
   where

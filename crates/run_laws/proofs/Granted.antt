@@ -35,11 +35,14 @@ use Rattle.step_table.specs.ClientState.{Client, Under, Idle, Open, AtStore, Edi
 use Rattle.step_table.specs.ClientLines.{on_op, on_flush, with_let_go}
 use Rattle.step_table.specs.ClientTakes.{having_heard, goes_on, granted, asks_for, take_grant, take_own, may_take, on_told, on_stored}
 use Rattle.step_table.specs.World.{World, row, after_row, after, client, start, to_server as for_server}
+use Rattle.run_laws.proofs.Giving.{let_released}
+use Rattle.run_laws.proofs.Files.{has_writer}
+use Rattle.run_laws.specs.LetGo.{is_cap, Lets}
 use Rattle.run_laws.specs.FlushNumbers.{flushes_of}
 use Rattle.run_laws.specs.Links.{View, EachClient, Number, Link, mine, mail_of, offer}
 use Rattle.run_laws.specs.Moments.{steps_of, world_after}
-use Rattle.run_laws.specs.Requests.{IsIt, count, asks, Requested}
-use Rattle.run_laws.specs.Tenures.{is_release, asks_write, wants_write, IsTreated, WriterIsKnown}
+use Rattle.run_laws.specs.Requests.{IsIt, count, asks, Requested, answers, AllOf}
+use Rattle.run_laws.specs.Tenures.{is_release, asks_write, wants_write, IsTreated, WriterIsKnown, IsUnwritten, AllUnwritten, WaitsUnwritten}
 use Rattle.run_laws.proofs.Acts.{Fit, KeptByActs, any_fit, acts_keep, row_keeps, turn_keeps, commit_keeps, restart_keeps, take_ask, take_connect, take_flush, take_drop, take_purged, take_deleted}
 use Rattle.run_laws.proofs.Answering.{NoReplyToCap}
 use Rattle.run_laws.proofs.Asked.{asks_append, count_less, requests_act}
@@ -477,6 +480,63 @@ known_at n c up s (Some k) writers awaits = λ ino any. either ino (writer_two n
     either ino two (inl held) = inl (held_writer ino c.files held)
     either ino two (inr (inl rel)) = inr (inl rel)
     either ino two (inr (inr wants)) = treated ino wants (awaits ino wants two)
+
+-- a request that waits
+waits_free : (n : ℕ) (c : Client) (up : List ToServer) (s : Server) (a : Asked) (ino : Ino) → IsIt (open_request c.under) a.tid (request.Cap ino Write) → asks up ≡ 0 → 1 ≤ count n s.held → Lets c.conn c.under up → Frees c.files c.under
+    → (is_writer ino c.files ≡ true) ⊎ ((list_any (is_release c.conn ino) up ≡ true) ⊎ ((wants_write ino c.under ≡ true) × IsTreated n up s)) → ⊥
+waits_free n c up s a ino it none some lets frees known = by_under c.under it lets frees known
+  where
+    itself : is_ino ino ino ≡ true
+    itself = grind (arith, nat_tests)
+
+    by_under : (under : Under) → IsIt (open_request under) a.tid (request.Cap ino Write) → Lets c.conn under up → Frees c.files under
+        → (is_writer ino c.files ≡ true) ⊎ ((list_any (is_release c.conn ino) up ≡ true) ⊎ ((wants_write ino under ≡ true) × IsTreated n up s)) → ⊥
+    by_under Idle it lets frees known = it
+    by_under (AtStore number entry file head) it lets frees known = it
+    by_under (Open number tid text asked gone) it lets frees (inl writes) =
+        let few : CapFree c.files gone (request.Cap ino Write) = subst (CapFree c.files gone) (sym it.1) frees.1 in let two = has_writer ino c.files writes in omega (arith, few, two)
+    by_under (Open number tid text asked gone) it lets frees (inr (inl released)) = true≢false (sym itself ∙ ap (is_cap ino) it.1 ∙ (let_released c.conn asked gone ino up lets none released).1)
+    by_under (Open number tid text asked gone) it lets frees (inr (inr treated)) = let zero_now = treated.1 in omega (arith, some, zero_now)
+
+waits_unwritten : (T : ℕ → Ino → ℕ) (n : ℕ) (c : Client) (up : List ToServer) (down : List ToClient) (s : Server) → Knowing T n c up down s → number_of s.current n ≡ Some c.conn → AllUnwritten n s.holders s.held
+waits_unwritten T n c up down s k number = by_held s.held (λ some. some) k.0.0.1.0.in_held
+  where
+    known : (ino : Ino) → list_any (writes_at n ino) s.holders ≡ true → (is_writer ino c.files ≡ true) ⊎ ((list_any (is_release c.conn ino) up ≡ true) ⊎ ((wants_write ino c.under ≡ true) × IsTreated n up s))
+    known = subst (λ (o : Option ℕ). IfSome o (λ k. (ino : Ino) → list_any (writes_at n ino) s.holders ≡ true → (is_writer ino c.files ≡ true) ⊎ ((list_any (is_release k ino) up ≡ true) ⊎ ((wants_write ino c.under ≡ true) × IsTreated n up s)))) number
+        (known_at n c up s (number_of s.current n) k.0.1.0.1.0.writers k.1)
+
+    none_asked : 1 ≤ count n s.held → asks up ≡ 0
+    none_asked some = let one : asks up + (count n (as_list s.hand) + count n s.held + count n s.deferred + count n (as_list s.operation)) + answers k.0.0.1.0.base (down ++ mail_of n s.mail) ≤ 1 = k.0.0.1.0.one in omega (arith, one, some)
+
+    one : (a : Asked) (asked : Request) → a.request ≡ asked → 1 ≤ count n s.held → IsIt (open_request c.under) a.tid a.request → IsUnwritten n s.holders asked
+    one a (request.Cap ino Write) is some it = by_test (list_any (writes_at n ino) s.holders) refl
+      where
+        by_test : (b : Bool) → list_any (writes_at n ino) s.holders ≡ b → b ≡ false
+        by_test true any = absurd (waits_free n c up s a ino (subst (λ (r : Request). IsIt (open_request c.under) a.tid r) is it) (none_asked some) some k.0.1.0.1.0.lets k.0.1.0.1.0.frees (known ino any))
+        by_test false any = refl
+    one a (request.Cap ino Read) is some it = tt
+    one a asked is some it = tt
+
+    by_held : (list : List Asked) → (1 ≤ count n list → 1 ≤ count n s.held) → AllOf n (open_request c.under) list → AllUnwritten n s.holders list
+    by_held [] some all = tt
+    by_held (a ∷ list) some all = ((λ mine_a. one a a.request refl (some (rw mine_a (omega arith))) (all.0 mine_a)), by_held list (λ more. some (more_of (of_client n a) more)) all.1)
+      where
+        more_of : (b : Bool) → 1 ≤ count n list → 1 ≤ cond b (count n list + 1) (count n list)
+        more_of true more = omega arith
+        more_of false more = more
+
+pub waits_law : (script : Script) (history : List Event) → EachClient WaitsUnwritten (world_after script history)
+waits_law script history n = found (client w.clients n) (knowing_each w all.0 all.1 n)
+  where
+    w : World
+    w = world_after script history
+
+    all : Holds w × EachClient Awaiting w
+    all = awaiting_run (start script) (steps_of history) (first script) (at_start Awaiting script (λ m is ino wants two. absurd (true≢false (sym wants))))
+
+    found : (o : Option Client) → IfSome o (λ c. Knowing all.0.pairs.most n c (mine n w.up) (mine n w.down) w.server) → IfSome o (λ c. WaitsUnwritten n c (mine n w.up) (mine n w.down) w.server)
+    found None k = tt
+    found (Some c) k = waits_unwritten all.0.pairs.most n c (mine n w.up) (mine n w.down) w.server k
 
 pub known_law : (script : Script) (history : List Event) → EachClient WriterIsKnown (world_after script history)
 known_law script history n = found (client w.clients n) (knowing_each w all.0 all.1 n)

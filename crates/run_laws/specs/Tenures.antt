@@ -192,6 +192,20 @@ abbrev pub flushes_file : ℕ → Ino → ToServer → Bool
 flushes_file k ino (Flush conn f) = conn == k && is_ino ino f.ino
 flushes_file k ino m = false
 
+-- a request to write a file is of a client that the table doesn't have as its writer
+abbrev pub IsUnwritten : ℕ → List Holder → Request → Type 0
+IsUnwritten n holders (Cap ino Write) = list_any (writes_at n ino) holders ≡ false
+IsUnwritten n holders asked = Unit {0}
+
+abbrev pub AllUnwritten : ℕ → List Holder → List Asked → Type 0
+AllUnwritten n holders [] = Unit {0}
+AllUnwritten n holders (a ∷ list) = (of_client n a ≡ true → IsUnwritten n holders a.request) × AllUnwritten n holders list
+
+-- Where the server has the client's present connection and holds its request to write a file, its table doesn't have the
+-- client as the file's writer.
+abbrev pub WaitsUnwritten : View
+WaitsUnwritten n c up down s = number_of s.current n ≡ Some c.conn → AllUnwritten n s.holders s.held
+
 -- a flush on the way: the server's table has its client as the writer of the file; and behind a release of a file no flush of
 -- it comes
 abbrev pub IsFlushed : ℕ → ℕ → List Holder → List ToServer → ToServer → Type 0

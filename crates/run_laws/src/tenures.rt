@@ -6,7 +6,7 @@ ghost use Rattle.step_table.specs.Legal.{Legal};
 ghost use Rattle.run_laws.specs.Moments.{world_after};
 ghost use Rattle.run_laws.specs.Links.{EachClient};
 ghost use Rattle.run_laws.specs.LetGo.{TableCoversGiven, GivenAfterRelease, LetGoIsRemembered, LetGoIsFree, DroppedIsFree, GrantIsAsked};
-ghost use Rattle.run_laws.specs.Tenures.{HeldIsMade, HeldOnce, GivenIsMade, AllHoldMade, EachOnce, AllAskMade, HeldMayWait, TableCovers, HeldAfterRelease, SomeIsRecalled, ReadersKeepNothing, SaysWriter, WriterIsKnown, FlushedIsWritten};
+ghost use Rattle.run_laws.specs.Tenures.{HeldIsMade, HeldOnce, GivenIsMade, AllHoldMade, EachOnce, AllAskMade, HeldMayWait, TableCovers, HeldAfterRelease, SomeIsRecalled, ReadersKeepNothing, SaysWriter, WriterIsKnown, WaitsUnwritten, FlushedIsWritten};
 
 /// What a client holds, and what a message on its way to it gives it, is a file that the durable entries made: no restart
 /// unmakes a file that is held. A client holds a file once.
@@ -66,6 +66,12 @@ pub fn an_answer_says_whether_its_client_writes()
 /// the client's open request is for the file for Write and is granted: it is neither on its way to the server nor kept there.
 pub fn who_writes_in_the_table_is_known()
     ensures { (script : Script) (history : List Event) → Legal history script → EachClient WriterIsKnown (world_after script history) }
+{}
+
+/// Who waits to write a file doesn't write it yet: where the server has a client's present connection and holds the client's
+/// request for a file for Write, its table doesn't have the client as the file's writer.
+pub fn who_waits_to_write_does_not_write_yet()
+    ensures { (script : Script) (history : List Event) → Legal history script → EachClient WaitsUnwritten (world_after script history) }
 {}
 
 /// Who flushes a file is its writer for the server: where it has a connection of a client, each flush on the way in that
