@@ -126,7 +126,7 @@ abbrev NumbersFit : List Entry → What → Type 0
 NumbersFit before (what.Mksnap id dir name) = Unit {0}
 NumbersFit before said = fits before said ≡ true
 
-abbrev MayFollow : List Entry → Entry → Type 0
+abbrev pub MayFollow : List Entry → Entry → Type 0
 MayFollow before e = (is_made_by (state_after before) e.client (change_in e.what) ≡ true) × NumbersFit before e.what
 
 -- what a request comes to may be entered for its client
@@ -444,7 +444,7 @@ enters_fit = record {
 }
 
 -- each entry may follow those before it
-abbrev AllFollow : List Entry → List Entry → Type 0
+abbrev pub AllFollow : List Entry → List Entry → Type 0
 AllFollow done [] = Unit {0}
 AllFollow done (e ∷ entries) = MayFollow done e × AllFollow (done ++ e ∷ []) entries
 
@@ -519,7 +519,7 @@ entered_kept = record {
   blind = λ b before r e holds. holds;
 }
 
-entered : (script : Script) (history : List Event) → Entered (world_after script history).server
+pub entered : (script : Script) (history : List Event) → Entered (world_after script history).server
 entered script history = run_serves (tested_gives enters_fit entered_kept) (start script) (steps_of history) (no_client_start script) tt
 
 follow_at : (done before later : List Entry) (e : Entry) → AllFollow done (before ++ e ∷ later) → MayFollow (done ++ before) e

@@ -1,5 +1,5 @@
 -- What a client hears is stamped with durable entries, and the stamps never fall, along each run.
-use Rattle.std.proofs.Common.{◌≡◌, ◌≤◌, ℕ, ◌+◌, List, [], ◌∷◌, ◌++◌, length, take, Bool, true, false, not, cond, Option, None, Some, refl, sym, ap, ◌∙◌, subst, IfSome, arith, ◌<◌, ◌≢◌, true≢false}
+use Rattle.std.proofs.Common.{◌≡◌, ◌≤◌, ℕ, ◌+◌, List, [], ◌∷◌, ◌++◌, length, take, Bool, true, false, not, cond, Option, None, Some, refl, sym, ap, ◌∙◌, subst, IfSome, arith, ◌<◌, ◌≢◌, true≢false, map}
 use Rattle.std.proofs.lemmas.List.{length-take-le}
 use Rattle.std.specs.Prelude.{◌==◌, ◌&&◌, nat_le, Result, Ok, Err, nat_lt, is_none, ◌||◌}
 use Rattle.std.specs.List.{list_any, cons_option}
@@ -51,11 +51,11 @@ use Rattle.run_laws.proofs.Link.{flowing}
 use Rattle.run_laws.proofs.Lending.{Opens, op_opens}
 use Rattle.run_laws.specs.Links.{View, EachClient, mine, Offer, offer, mark, IsNow, mail_of}
 use Rattle.run_laws.specs.Moments.{steps_of, world_after}
-use Rattle.run_laws.specs.Stamps.{told_by, entry_of, StampsRise, HearsRising, HearsOwn}
+use Rattle.run_laws.specs.Stamps.{told_by, entry_of, StampsRise, HearsRising, HearsOwn, WillHearRising}
 use Rattle.run_laws.proofs.Clients.{updated_same, store_hidden, flush_acts, Keeps as FlushActs}
 use Rattle.run_laws.proofs.Growing.{Begins, begins_gives, take_take}
 use Rattle.run_laws.proofs.Linked.{at_start, each_part, OpenLinked, linked, first_link}
-use Rattle.run_laws.proofs.Mail.{Mailed, GoneAt, Gone, HandedOut, mailed_gives}
+use Rattle.run_laws.proofs.Mail.{Mailed, GoneAt, Gone, HandedOut, mailed_gives, MadeAt, Waiting}
 use Rattle.run_laws.proofs.Stamped.{start_mailed}
 use Rattle.run_laws.proofs.Views.{Client's, Server's, KeptByRows, run_keeps}
 
@@ -282,6 +282,26 @@ hearing_rows = record {
 
 pub hearing_law : (script : Script) (history : List Event) → EachClient HearsRising (world_after script history)
 hearing_law script history = each_part Hearing HearsRising (world_after script history) (λ n c up down s all. all.1)
+    (run_keeps Hearing hearing_rows (start script) (steps_of history) (at_start Hearing script (λ n is. (start_mailed script, (omega arith, omega arith)))))
+
+-- what waits to be sent
+waiting_rise : (n : ℕ) (entries : List Entry) (low : ℕ) (mail : List (ℕ × Sent)) → low ≤ length entries → Waiting entries low mail → StampsRise entries low (length entries) (mail_of n mail)
+waiting_rise n entries low [] less waiting = less
+waiting_rise n entries low (m ∷ mail) less waiting = by_message m.1.to m.1.message waiting.2 (rise_lower entries m.0 low (length entries) (mail_of n mail) waiting.0 (waiting_rise n entries m.0 mail waiting.1 waiting.3)) (waiting_rise n entries m.0 mail waiting.1 waiting.3)
+  where
+    by_message : (to : ℕ) (x : Message) → MadeAt entries m.0 (told_by x) → StampsRise entries low (length entries) (mail_of n mail) → StampsRise entries m.0 (length entries) (mail_of n mail) → StampsRise entries low (length entries) (mine n (cons_option (told_to to x) (to_clients (map (λ (m : ℕ × Sent). m.1) mail))))
+    by_message to (message.ToClient told) made rest behind = by_number (to == n)
+      where
+        by_number : (b : Bool) → StampsRise entries low (length entries) (cond b (told ∷ mail_of n mail) (mail_of n mail))
+        by_number true = (rw made.0 waiting.0, rw made.0 waiting.1, rw made.0 made.1, rw made.0 behind)
+        by_number false = rest
+    by_message to (message.ToServer said) made rest behind = rest
+    by_message to (message.ToStore order) made rest behind = rest
+    by_message to (message.FromStore said) made rest behind = rest
+
+pub will_law : (script : Script) (history : List Event) → EachClient WillHearRising (world_after script history)
+will_law script history = each_part Hearing WillHearRising (world_after script history)
+    (λ n c up down s all. rise_append s.entries c.heard.any s.durable (length s.entries) down (mail_of n s.mail) all.1.1 (waiting_rise n s.entries s.durable s.mail all.0.fits all.0.waiting) all.0.fits)
     (run_keeps Hearing hearing_rows (start script) (steps_of history) (at_start Hearing script (λ n is. (start_mailed script, (omega arith, omega arith)))))
 
 -- A client that isn't frozen heard the last message by its own connection.

@@ -15,6 +15,7 @@ mod Delivered
 mod Determined
 mod Effects
 mod Entered
+mod Exists
 mod Files
 mod Fitting
 mod Freed

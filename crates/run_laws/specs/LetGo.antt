@@ -4,6 +4,7 @@ use Rattle.std.specs.List.{list_any}
 use Rattle.snap_ids.specs.declared.id.Ino.{Ino}
 use Rattle.snap_ids.specs.declared.values.Mode.{Mode}
 use Rattle.snap_ids.specs.declared.values.Mode.TheVariants.{Read, Write}
+use Rattle.plain_types.specs.declared.entry.Entry.{Entry}
 use Rattle.plain_types.specs.declared.message.FlushMsg.{FlushMsg}
 use Rattle.plain_types.specs.declared.message.ToClient.{ToClient}
 use Rattle.plain_types.specs.declared.message.ToClient.TheVariants.{Grant}
@@ -11,14 +12,15 @@ use Rattle.plain_types.specs.declared.message.ToServer.{ToServer}
 use Rattle.plain_types.specs.declared.message.ToServer.TheVariants.{DropRead}
 use Rattle.plain_types.specs.declared.request.Request.{Request}
 use Rattle.plain_types.specs.declared.request.Request.TheVariants.{Cap}
+use Rattle.plain_tree.specs.State.{Handle}
 use Rattle.plain_journal.specs.Table.{last_flush}
 use Rattle.held_files.specs.Files.{HeldFiles, is_ino, is_held, is_writer, is_write}
 use Rattle.step_table.specs.ServerState.{Holder, number_of, is_holder}
-use Rattle.step_table.specs.ClientState.{Under, Open}
+use Rattle.step_table.specs.ClientState.{Under, Open, open_request}
 use Rattle.run_laws.specs.Holding.{is_given}
 use Rattle.run_laws.specs.Links.{View, mail_of}
 use Rattle.run_laws.specs.Requests.{asks}
-use Rattle.run_laws.specs.Tenures.{AllReleased, gone_in, is_gone, is_release}
+use Rattle.run_laws.specs.Tenures.{IsMade, CapIsMade, AllReleased, gone_in, is_gone, is_release}
 
 -- a message of a connection lets a file go that was held for Read
 abbrev pub is_drop : ℕ → Ino → ToServer → Bool
@@ -70,6 +72,15 @@ LetGoIsFree n c up down s = GoneIsFree c.files c.under
 -- a holder has a file for Read
 abbrev pub reads_at : ℕ → Ino → Holder → Bool
 reads_at n ino h = is_holder n ino h && not (is_write h.mode)
+
+-- handles of files that the entries made
+abbrev pub AllOfMade : List Entry → List Handle → Type 0
+AllOfMade entries [] = Unit {0}
+AllOfMade entries (h ∷ handles) = IsMade entries h.ino × AllOfMade entries handles
+
+-- What a client has open, and what it asks a capability for, is a file that the entries made.
+abbrev pub AsksOfMade : View
+AsksOfMade n c up down s = AllOfMade s.entries c.handles × IfSome (open_request c.under) (λ r. CapIsMade s.entries r.1)
 
 -- Where the server's table has a client as a reader of a file, and the file is let go on the way in the server's connection,
 -- the client doesn't hold the file and isn't being given it.

@@ -1,5 +1,5 @@
 -- What the server sends its clients, and the stamps in it.
-use Rattle.std.specs.Prelude.{◌≡◌, ◌≤◌, ◌<◌, ℕ, false, List, [], ◌∷◌, length, take, filter_map, Option, None, Some}
+use Rattle.std.specs.Prelude.{◌≡◌, ◌≤◌, ◌<◌, ℕ, false, List, [], ◌∷◌, ◌++◌, length, take, filter_map, Option, None, Some}
 use Rattle.snap_ids.specs.declared.id.TheConstants.{NOSNAP}
 use Rattle.plain_types.specs.declared.entry.Entry.{Entry}
 use Rattle.plain_types.specs.declared.history.Event.{Event}
@@ -10,7 +10,7 @@ use Rattle.plain_types.specs.declared.message.ToClient.{ToClient}
 use Rattle.plain_tree.specs.History.{stamp_of}
 use Rattle.plain_journal.specs.Entries.{applied}
 use Rattle.step_table.specs.Legal.{sent_between}
-use Rattle.run_laws.specs.Links.{View}
+use Rattle.run_laws.specs.Links.{View, mail_of}
 
 -- a message of the server to a client
 abbrev pub told_by : Message → Option ToClient
@@ -54,6 +54,10 @@ StampsRise entries low high (told ∷ more) =
 -- durable. The last one of its own connection that it heard isn't above the last one at all.
 abbrev pub HearsRising : View
 HearsRising n c up down s = (c.heard.own ≤ c.heard.any) × StampsRise s.entries c.heard.any s.durable down
+
+-- With what waits to be sent they don't fall either, and none counts more entries than there are.
+abbrev pub WillHearRising : View
+WillHearRising n c up down s = StampsRise s.entries c.heard.any (length s.entries) (down ++ mail_of n s.mail)
 
 -- A client that isn't frozen heard the last message by its own connection, where by that message's stamp fewer snapshots were
 -- made than there are ids for.

@@ -6,7 +6,7 @@ ghost use Rattle.step_table.specs.Legal.{Legal};
 ghost use Rattle.step_table.specs.World.{journal};
 ghost use Rattle.run_laws.specs.Links.{EachClient};
 ghost use Rattle.run_laws.specs.Moments.{world_after};
-ghost use Rattle.run_laws.specs.Stamps.{told_in, sent_to, entry_of, NeverFall, AllStampsOf, HearsRising, HearsOwn};
+ghost use Rattle.run_laws.specs.Stamps.{told_in, sent_to, entry_of, NeverFall, AllStampsOf, HearsRising, WillHearRising, HearsOwn};
 
 /// What the server tells a client is told in the order in which it was made: the numbers of entries that the messages are
 /// stamped with never fall.
@@ -27,6 +27,13 @@ pub fn what_is_told_is_durable()
 /// the last one that it heard at all.
 pub fn what_a_client_hears_rises()
     ensures { (script : Script) (history : List Event) → Legal history script → EachClient HearsRising (world_after script history) }
+{}
+
+/// What the server has made for a client and hasn't sent is stamped behind what it has sent: from the last stamp that the
+/// client heard on, the stamps of what is on its way and then of what waits never fall, none counts more entries than there
+/// are, and each names the last snapshot that its entries made.
+pub fn what_waits_is_stamped_behind()
+    ensures { (script : Script) (history : List Event) → Legal history script → EachClient WillHearRising (world_after script history) }
 {}
 
 /// A client that isn't frozen heard the last message by its own connection: from its Welcome on no message of another

@@ -5,7 +5,7 @@ ghost use Rattle.plain_types.specs.declared.script.Script.{Script};
 ghost use Rattle.step_table.specs.Legal.{Legal};
 ghost use Rattle.run_laws.specs.Moments.{world_after};
 ghost use Rattle.run_laws.specs.Links.{EachClient};
-ghost use Rattle.run_laws.specs.LetGo.{TableCoversGiven, GivenAfterRelease, LetGoIsRemembered, LetGoIsFree, DroppedIsFree, GrantIsAsked};
+ghost use Rattle.run_laws.specs.LetGo.{AsksOfMade, TableCoversGiven, GivenAfterRelease, LetGoIsRemembered, LetGoIsFree, DroppedIsFree, GrantIsAsked};
 ghost use Rattle.run_laws.specs.Tenures.{HeldIsMade, HeldOnce, GivenIsMade, AllHoldMade, EachOnce, AllAskMade, HeldMayWait, TableCovers, HeldAfterRelease, SomeIsRecalled, ReadersKeepNothing, SaysWriter, WriterIsKnown, WaitsUnwritten, FlushedIsWritten};
 
 /// What a client holds, and what a message on its way to it gives it, is a file that the durable entries made: no restart
@@ -14,6 +14,12 @@ pub fn what_is_held_was_made()
     ensures held { (script : Script) (history : List Event) → Legal history script → EachClient HeldIsMade (world_after script history) }
     ensures once { (script : Script) (history : List Event) → Legal history script → EachClient HeldOnce (world_after script history) }
     ensures given { (script : Script) (history : List Event) → Legal history script → EachClient GivenIsMade (world_after script history) }
+{}
+
+/// What a client has open is a file that the server's entries made, and so is the file for which it asks a capability: no
+/// request for one is dropped since the server doesn't know the file.
+pub fn what_is_asked_for_was_made()
+    ensures { (script : Script) (history : List Event) → Legal history script → EachClient AsksOfMade (world_after script history) }
 {}
 
 /// Who holds a file in the server's table is connected, and the file is one that the server's entries made; the table has a
