@@ -5,7 +5,11 @@ use Rattle.snap_ids.specs.declared.id.TheConstants.{ROOT}
 use Rattle.plain_types.specs.declared.entry.Entry.{Entry}
 use Rattle.plain_types.specs.declared.entry.What.{What}
 use Rattle.plain_types.specs.declared.entry.What.TheVariants.{Mkdir, Create, Mksnap, Settle, Chmod, Release, Unlink, Barrier}
+use Rattle.plain_tree.specs.Change.{is_directory}
+use Rattle.plain_journal.specs.Entries.{state_after}
 use Rattle.plain_journal.specs.Legal.{is_journal}
+use Rattle.meta_state.specs.Stands.{Tables, StandsFor}
+use Rattle.meta_state.specs.Queries.{HasDirectory}
 
 abbrev by_one : What → Entry
 by_one what = record { client = 1; number = 1; what = what }
@@ -28,9 +32,17 @@ flushed a f s again =
     ∷ by_one (Barrier 3)
     ∷ []
 
-pub is_flushed : (a f s again : List ℕ) → a ≡ codes "a" → f ≡ codes "f" → s ≡ codes "s" → again ≡ codes "f" → is_journal (flushed a f s again) ≡ true
-is_flushed a f s again a_is f_is s_is again_is =
-    subst (λ (x : List ℕ). is_journal (flushed x f s again) ≡ true) (sym a_is)
-    (subst (λ (x : List ℕ). is_journal (flushed (codes "a") x s again) ≡ true) (sym f_is)
-    (subst (λ (x : List ℕ). is_journal (flushed (codes "a") (codes "f") x again) ≡ true) (sym s_is)
-    (subst (λ (x : List ℕ). is_journal (flushed (codes "a") (codes "f") (codes "s") x) ≡ true) (sym again_is) refl)))
+-- the names of a test are those that it spells
+module _ (a f s again : List ℕ) (a_is : a ≡ codes "a") (f_is : f ≡ codes "f") (s_is : s ≡ codes "s") (again_is : again ≡ codes "f") where
+  spelled : flushed a f s again ≡ flushed (codes "a") (codes "f") (codes "s") (codes "f")
+  spelled = λ i. flushed (a_is i) (f_is i) (s_is i) (again_is i)
+
+  pub is_flushed : is_journal (flushed a f s again) ≡ true
+  is_flushed = subst (λ (entries : List Entry). is_journal entries ≡ true) (sym spelled) refl
+
+  pub has_directory : (tables : Tables) → StandsFor tables (flushed a f s again) → HasDirectory tables dir
+  has_directory tables stands = record {
+    entries = flushed a f s again;
+    stands = stands;
+    there = subst (λ (entries : List Entry). is_directory (state_after entries) dir ≡ true) (sym spelled) refl;
+  }

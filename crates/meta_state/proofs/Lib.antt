@@ -7,6 +7,7 @@ mod Fits
 mod Flushed
 mod Looked
 mod Fronts
+mod Ids
 mod Lives
 mod May
 mod Names

@@ -12,4 +12,8 @@ pub use find::Found;
 pub use state::MetaState;
 
 #[cfg(test)]
+mod answer_tests;
+#[cfg(test)]
+mod decide_tests;
+#[cfg(test)]
 mod tests;
