@@ -1,0 +1,7 @@
+pub mod Changed
+pub mod Counted
+pub mod Sends
+pub mod Table
+pub mod Right
+pub mod Popped
+pub mod Stood

@@ -1,0 +1,3 @@
+pub mod Channels
+pub mod Stands
+pub mod Carried

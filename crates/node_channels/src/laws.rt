@@ -1,0 +1,52 @@
+// How channels stand for those of the table's world, and for a history.
+ghost use Rattle.std.specs.Prelude.{◌≡◌, ◌≢◌, ◌+◌, ℕ, true, List, Option, map};
+ghost use Rattle.std.specs.List.{list_all};
+ghost use Rattle.plain_types.specs.declared.history.Sent.{Sent};
+ghost use Rattle.plain_types.specs.declared.history.Step.{Step};
+ghost use Rattle.plain_types.specs.declared.message.Message.{Message};
+ghost use Rattle.plain_types.specs.declared.message.ToStore.{ToStore};
+ghost use Rattle.plain_types.specs.declared.script.Script.{Script};
+ghost use Rattle.node_core.specs.Steps.{is_client, is_sent_well};
+ghost use Rattle.step_table.specs.ClientState.{Client};
+ghost use Rattle.step_table.specs.Messages.{plain_sent};
+ghost use Rattle.step_table.specs.Row.{Row};
+ghost use Rattle.step_table.specs.ServerState.{Server};
+ghost use Rattle.step_table.specs.World.{World, start, at_server, at_client, at_store};
+ghost use Rattle.node_channels.specs.Channels.{Waiting, IsWhole, queue, with_queue, with_sent, first, no_messages, is_taking, count};
+ghost use Rattle.node_channels.specs.Stands.{ChannelsStand, GivesTheSame, HoldsNone, takes};
+
+/// Each step that takes has a channel, and no two steps have the same.
+pub fn a_step_has_its_own_channel()
+    ensures own { (c : Waiting) → IsWhole c → (step : Step) → is_taking c.clients step ≡ true → (messages : List Message)
+        → queue (with_queue c step messages) step ≡ messages }
+    ensures others { (c : Waiting) → IsWhole c → (step other : Step) → is_taking c.clients step ≡ true → other ≢ step → (messages : List Message)
+        → queue (with_queue c step messages) other ≡ queue c other }
+{}
+
+/// Empty channels stand for those of a world before its first step.
+pub fn channels_stand_at_first()
+    ensures { (script : Script) → ChannelsStand (no_messages script.clients) (start script) }
+{}
+
+/// A step takes from channels what it takes in the world that they stand for: there is a message for it in both or in none.
+pub fn a_step_takes_what_the_table_takes()
+    ensures { (c : Waiting) (w : World) → ChannelsStand c w → (step : Step) → GivesTheSame c step (first (queue c step)) (takes w step) }
+{}
+
+/// Where a node sends plainly what its row sends, its channels stand for those of the world after the row.
+pub fn what_is_sent_is_what_the_table_sends()
+    ensures server { (c : Waiting) (w : World) → ChannelsStand c w → (taken : Option Message) (row : Row Server) → row.state.clients ≡ w.server.clients
+        → (sent : List Sent) → list_all (is_sent_well c.clients 0) sent ≡ true → map plain_sent sent ≡ map plain_sent row.sent
+        → ChannelsStand (with_sent c 0 sent) (at_server w taken row).world }
+    ensures client { (c : Waiting) (w : World) → ChannelsStand c w → (n : ℕ) → is_client c.clients n ≡ true → (taken : Option Message) (row : Row Client)
+        → (sent : List Sent) → list_all (is_sent_well c.clients n) sent ≡ true → map plain_sent sent ≡ map plain_sent row.sent
+        → ChannelsStand (with_sent c n sent) (at_client n w taken row).world }
+    ensures store { (c : Waiting) (w : World) → ChannelsStand c w → (taken : Message) (row : Row (List ToStore))
+        → (sent : List Sent) → list_all (is_sent_well c.clients (c.clients + 1)) sent ≡ true → map plain_sent sent ≡ map plain_sent row.sent
+        → ChannelsStand (with_sent c (c.clients + 1) sent) (at_store w taken row).world }
+{}
+
+/// Where no message waits, no channel of the table holds one.
+pub fn empty_channels_are_empty_in_the_table()
+    ensures { (c : Waiting) (w : World) → ChannelsStand c w → count c ≡ 0 → HoldsNone w }
+{}
