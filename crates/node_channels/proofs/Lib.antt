@@ -5,3 +5,6 @@ pub mod Table
 pub mod Right
 pub mod Popped
 pub mod Stood
+pub mod Past
+pub mod Rows
+pub mod Kept

@@ -118,9 +118,9 @@ tags_added wrap true first n x here pick sent = adds_none first sent
 tags_added wrap false first n x here pick sent =
     mine_append wrap n here (tagged x (filter_map (λ (m : Sent). pick m.message) sent))
     ∙ ap (λ (l : List Message). mine wrap n here ++ l)
-      (mine_tagged wrap n x (filter_map (λ (m : Sent). pick m.message) sent)
-      ∙ ap (λ (l : List Message). cond (x == n) l []) (mapped wrap (λ (m : Sent). pick m.message) sent)
-      ∙ chosen (x == n) (λ (m : Sent). option_map wrap (pick m.message)) sent)
+    (mine_tagged wrap n x (filter_map (λ (m : Sent). pick m.message) sent)
+    ∙ ap (λ (l : List Message). cond (x == n) l []) (mapped wrap (λ (m : Sent). pick m.message) sent)
+    ∙ chosen (x == n) (λ (m : Sent). option_map wrap (pick m.message)) sent)
 
 pub client_adds : (x : ℕ) (w : World) (taken : Option Message) (r : Row Client) (step : Step) → waits (at_client x w taken r).world step ≡ waits w step ++ filter_map (λ (m : Sent). by_client w.server.clients x step m.to m.message) r.sent
 client_adds x w taken r (ServerTakes n) = tags_added message.ToServer (n == store_node w) (map message.ToServer w.reported) n x w.up for_server r.sent

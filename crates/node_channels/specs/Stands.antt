@@ -1,11 +1,15 @@
 -- How channels stand for those of the table's world.
-use Rattle.std.specs.Prelude.{◌≡◌, ℕ, ◌==◌, List, [], ◌∷◌, map, filter_map, if◌then◌else◌, Option, None, Some}
+use Rattle.std.specs.Prelude.{◌≡◌, ℕ, ◌==◌, List, [], ◌∷◌, map, filter_map, if◌then◌else◌, Option, None, Some, option_map}
 use Rattle.plain_types.specs.declared.history.Step.{Step}
-use Rattle.plain_types.specs.declared.history.Step.TheVariants.{ClientFromServer, ClientFromStore, ServerTakes, StoreTakes}
+use Rattle.plain_types.specs.declared.history.Step.TheVariants.{Op, Flush, ClientFromServer, ClientFromStore, ServerTakes, Commit, Restart, Tend, StoreTakes}
 use Rattle.plain_types.specs.declared.message.Message.{Message}
 use Rattle.plain_types.specs.declared.message.Message.TheVariants.{ToServer, ToClient, ToStore, FromStore}
+use Rattle.plain_types.specs.declared.message.ToStore.{ToStore as Order}
 use Rattle.step_table.specs.Messages.{plain_message}
-use Rattle.step_table.specs.World.{World, pop, store_node}
+use Rattle.step_table.specs.Nodes.{server_row, client_row, store_row}
+use Rattle.step_table.specs.ServerState.{Server}
+use Rattle.step_table.specs.ClientState.{Client}
+use Rattle.step_table.specs.World.{World, Made, pop, store_node, some_row, at_server, at_client, at_store}
 use Rattle.node_channels.specs.Channels.{Waiting, IsWhole, queue, without_first}
 
 -- the messages of one client in a channel of the table
@@ -60,6 +64,25 @@ takes w (StoreTakes n) =
     else of_one ToStore (λ rest. record w { asked = rest }) (pop n w.asked)
 takes w (ClientFromStore n) = of_one FromStore (λ rest. record w { stored = rest }) (pop n w.stored)
 takes w step = None
+
+-- what a step is handed in the table's world, and the world then: nothing, where it takes nothing
+abbrev pub handed : World → Step → Option (Option Message × World)
+handed w (Op n) = Some (None, w)
+handed w (Flush n) = Some (None, w)
+handed w Commit = Some (None, w)
+handed w (Restart k) = Some (None, w)
+handed w Tend = Some (None, w)
+handed w step = option_map (λ (found : Message × World). (Some found.0, found.1)) (takes w step)
+
+-- what the row of a node makes of the world that is left
+abbrev pub by_server : Server → Step → Option Message × World → Option Made
+by_server s step given = some_row (at_server given.1 given.0) (server_row s step given.0)
+
+abbrev pub by_client : Client → ℕ → Step → Option Message × World → Option Made
+by_client c n step given = some_row (at_client n given.1 given.0) (client_row c step given.0)
+
+abbrev pub by_store : ℕ → List Order → Step → Message × World → Option Made
+by_store object taken step found = some_row (at_store found.1 found.0) (store_row object taken step (Some found.0))
 
 -- The channels give a step what the table gives it: nothing, or plainly the same message, and then the rest stands too.
 abbrev pub GivesTheSame : Waiting → Step → Option Message → Option (Message × World) → Type 0

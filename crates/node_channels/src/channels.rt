@@ -18,7 +18,7 @@ use std::marker::Model;
 pub struct Channels {
     lanes: Lanes,
     // How many messages wait.
-    count: usize,
+    waiting: usize,
 }
 
 impl Model for Channels {
@@ -29,7 +29,7 @@ impl Model for Channels {
 
     ghost view = { λ channels. channels.lanes };
 
-    ghost invariant = { λ channels. IsSound channels.lanes × (channels.count ≡ count channels.lanes) };
+    ghost invariant = { λ channels. IsSound channels.lanes × (channels.waiting ≡ count channels.lanes) };
 }
 
 impl Channels {
@@ -39,7 +39,7 @@ impl Channels {
     {
         Ok(Channels {
             lanes: Lanes::new(alloc, clients)?,
-            count: 0,
+            waiting: 0,
         })
     }
 
@@ -50,11 +50,11 @@ impl Channels {
         ensures last { OnOk result (self.new ≡ with_one self.old from sent) }
         ensures as_before { OnErr result (self.new ≡ self.old) }
     {
-        let Some(count) = self.count.checked_add(1) else {
+        let Some(waiting) = self.waiting.checked_add(1) else {
             return Err(NoMemory);
         };
         self.lanes.put_last(from, sent.to, sent.message)?;
-        self.count = count;
+        self.waiting = waiting;
         Ok(())
     }
 
@@ -98,7 +98,7 @@ impl Channels {
         ensures fits { IfSome result (λ message. message_fits self.old.clients step.now message ≡ true) }
     {
         let message = self.lanes.take_first(step)?;
-        self.count -= 1;
+        self.waiting -= 1;
         Some(message)
     }
 
@@ -106,7 +106,7 @@ impl Channels {
     pub fn len(&self) -> usize
         ensures { result ≡ count self.now }
     {
-        self.count
+        self.waiting
     }
 
     /// Whether no message waits, for whatever step.
@@ -114,6 +114,6 @@ impl Channels {
         ensures count { result ≡ (count self.now == 0) }
         ensures none { IsTrue result ↔ ((step : Step) → queue self.now step ≡ []) }
     {
-        self.count == 0
+        self.waiting == 0
     }
 }

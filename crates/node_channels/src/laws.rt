@@ -1,19 +1,22 @@
 // How channels stand for those of the table's world, and for a history.
-ghost use Rattle.std.specs.Prelude.{◌≡◌, ◌≢◌, ◌+◌, ℕ, true, List, Option, map};
+ghost use Rattle.std.specs.Prelude.{◌≡◌, ◌≢◌, ◌+◌, ◌++◌, ◌∷◌, [], ℕ, true, List, Option, Some, map, option_and_then};
 ghost use Rattle.std.specs.List.{list_all};
+ghost use Rattle.plain_types.specs.declared.history.Event.{Event};
 ghost use Rattle.plain_types.specs.declared.history.Sent.{Sent};
 ghost use Rattle.plain_types.specs.declared.history.Step.{Step};
 ghost use Rattle.plain_types.specs.declared.message.Message.{Message};
 ghost use Rattle.plain_types.specs.declared.message.ToStore.{ToStore};
 ghost use Rattle.plain_types.specs.declared.script.Script.{Script};
-ghost use Rattle.node_core.specs.Steps.{is_client, is_sent_well};
+ghost use Rattle.node_core.specs.Steps.{is_client, is_step_of, is_sent_well};
 ghost use Rattle.step_table.specs.ClientState.{Client};
+ghost use Rattle.step_table.specs.Legal.{Delivered};
 ghost use Rattle.step_table.specs.Messages.{plain_sent};
 ghost use Rattle.step_table.specs.Row.{Row};
 ghost use Rattle.step_table.specs.ServerState.{Server};
-ghost use Rattle.step_table.specs.World.{World, start, at_server, at_client, at_store};
+ghost use Rattle.step_table.specs.World.{World, row, client, start, at_server, at_client, at_store};
+ghost use Rattle.node_channels.specs.Carried.{IsCarried, MayCome, after_event};
 ghost use Rattle.node_channels.specs.Channels.{Waiting, IsWhole, queue, with_queue, with_sent, first, no_messages, is_taking, count};
-ghost use Rattle.node_channels.specs.Stands.{ChannelsStand, GivesTheSame, HoldsNone, takes};
+ghost use Rattle.node_channels.specs.Stands.{ChannelsStand, GivesTheSame, HoldsNone, takes, handed, by_server, by_client, by_store};
 
 /// Each step that takes has a channel, and no two steps have the same.
 pub fn a_step_has_its_own_channel()
@@ -49,4 +52,22 @@ pub fn what_is_sent_is_what_the_table_sends()
 /// Where no message waits, no channel of the table holds one.
 pub fn empty_channels_are_empty_in_the_table()
     ensures { (c : Waiting) (w : World) → ChannelsStand c w → count c ≡ 0 → HoldsNone w }
+{}
+
+/// A step of the table's world is the row of its node, over what the step is handed.
+pub fn a_step_of_the_world_is_its_nodes_row()
+    ensures server { (w : World) (step : Step) → is_step_of w.server.clients 0 step ≡ true
+        → row w step ≡ option_and_then (by_server w.server step) (handed w step) }
+    ensures client { (w : World) (n : ℕ) (c : Client) (step : Step) → client w.clients n ≡ Some c → c.number ≡ n → is_client w.server.clients n ≡ true
+        → is_step_of w.server.clients n step ≡ true → row w step ≡ option_and_then (by_client c n step) (handed w step) }
+    ensures store { (w : World) (step : Step) → is_step_of w.server.clients (w.server.clients + 1) step ≡ true
+        → row w step ≡ option_and_then (by_store w.object w.store step) (takes w step) }
+{}
+
+/// At first nothing was sent; whatever event comes, each node goes on taking from each other what that one sent, in order.
+pub fn what_is_sent_is_delivered()
+    ensures first { (clients : ℕ) → IsCarried (no_messages clients) [] }
+    ensures kept { (c : Waiting) (history : List Event) (event : Event) → IsCarried c history → MayCome c event
+        → IsCarried (after_event c event) (history ++ event ∷ []) }
+    ensures delivered { (c : Waiting) (history : List Event) → IsCarried c history → Delivered (c.clients + 1) history }
 {}
