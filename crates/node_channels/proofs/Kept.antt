@@ -85,6 +85,9 @@ sending_well old now from sent items rest m sending is well =
     whole : (list_all (is_sent_well old.clients from) sending.done && list_all (is_sent_well old.clients from) (m ∷ rest)) ≡ true
     whole = sym (list_all-append (is_sent_well old.clients from) sending.done (m ∷ rest)) ∙ ap (list_all (is_sent_well old.clients from)) (sym (sending.all ∙ ap (λ (l : List Sent). sending.done ++ l) is)) ∙ well
 
+pub sending_clients : (old now : Waiting) (from : ℕ) (sent items : List Sent) → IsSending old now from sent items → now.clients ≡ old.clients
+sending_clients old now from sent items sending = ap (λ (d : Waiting). d.clients) sending.so_far ∙ clients_sent old from sending.done
+
 pub sending_fails : (old now new : Waiting) (from : ℕ) (sent items : List Sent) → IsSending old now from sent items → new ≡ now → (n : ℕ) × (new ≡ with_sent old from (take n sent))
 sending_fails old now new from sent items sending same = (
   length sending.done,

@@ -8,3 +8,4 @@ pub mod Stood
 pub mod Past
 pub mod Rows
 pub mod Kept
+pub mod Heard

@@ -48,6 +48,7 @@ impl Channels {
     pub fn send(&mut self, from: u8, sent: Sent) -> Result<(), NoMemory>
         requires { is_sent_well self.old.clients from sent ≡ true }
         ensures last { OnOk result (self.new ≡ with_one self.old from sent) }
+        ensures clients { self.new.clients ≡ self.old.clients }
         ensures as_before { OnErr result (self.new ≡ self.old) }
     {
         let Some(waiting) = self.waiting.checked_add(1) else {
@@ -63,6 +64,7 @@ impl Channels {
     pub fn send_all(&mut self, from: u8, sent: Sending) -> Result<(), NoMemory>
         requires { list_all (is_sent_well self.old.clients from) sent ≡ true }
         ensures all { OnOk result (self.new ≡ with_sent self.old from sent) }
+        ensures clients { self.new.clients ≡ self.old.clients }
         ensures some { OnErr result ((n : ℕ) × (self.new ≡ with_sent self.old from (take n sent))) }
     {
         for message in sent.into_vec() {
@@ -95,6 +97,7 @@ impl Channels {
     pub fn take(&mut self, step: &Step) -> Option<Message>
         ensures first { result ≡ first (queue self.old step.now) }
         ensures rest { self.new ≡ without_first self.old step.now }
+        ensures clients { self.new.clients ≡ self.old.clients }
         ensures fits { IfSome result (λ message. message_fits self.old.clients step.now message ≡ true) }
     {
         let message = self.lanes.take_first(step)?;

@@ -1,16 +1,18 @@
 // How channels stand for those of the table's world, and for a history.
-ghost use Rattle.std.specs.Prelude.{◌≡◌, ◌≢◌, ◌+◌, ◌++◌, ◌∷◌, [], ℕ, true, List, Option, Some, map, option_and_then};
+ghost use Rattle.std.specs.Prelude.{◌≡◌, ◌≢◌, ◌+◌, ◌++◌, ◌∷◌, [], ℕ, true, false, List, Option, Some, map, option_and_then};
 ghost use Rattle.std.specs.List.{list_all};
 ghost use Rattle.plain_types.specs.declared.history.Event.{Event};
 ghost use Rattle.plain_types.specs.declared.history.Sent.{Sent};
 ghost use Rattle.plain_types.specs.declared.history.Step.{Step};
 ghost use Rattle.plain_types.specs.declared.message.Message.{Message};
+ghost use Rattle.plain_types.specs.declared.message.ToClient.{ToClient};
 ghost use Rattle.plain_types.specs.declared.message.ToStore.{ToStore};
 ghost use Rattle.plain_types.specs.declared.script.Script.{Script};
-ghost use Rattle.node_core.specs.Steps.{is_client, is_step_of, is_sent_well};
+ghost use Rattle.node_core.specs.Steps.{is_client, is_step_of, is_sent_well, is_to_client};
 ghost use Rattle.step_table.specs.ClientState.{Client};
+ghost use Rattle.step_table.specs.ClientTakes.{on_told};
 ghost use Rattle.step_table.specs.Legal.{Delivered};
-ghost use Rattle.step_table.specs.Messages.{plain_sent};
+ghost use Rattle.step_table.specs.Messages.{plain_sent, plain_message, plainly_told, to_client_fits};
 ghost use Rattle.step_table.specs.Row.{Row};
 ghost use Rattle.step_table.specs.ServerState.{Server};
 ghost use Rattle.step_table.specs.World.{World, row, client, start, at_server, at_client, at_store};
@@ -70,4 +72,12 @@ pub fn what_is_sent_is_delivered()
     ensures kept { (c : Waiting) (history : List Event) (event : Event) → IsCarried c history → MayCome c event
         → IsCarried (after_event c event) (history ++ event ∷ []) }
     ensures delivered { (c : Waiting) (history : List Event) → IsCarried c history → Delivered (c.clients + 1) history }
+{}
+
+/// Where two messages are plainly the same, a client makes the same row of both, if the numbers in both can be or in
+/// neither. A message that goes to no client is the same itself.
+pub fn traces_count_by_their_contexts()
+    ensures client { (c : Client) (told other : ToClient) → plainly_told told ≡ plainly_told other → to_client_fits told ≡ to_client_fits other
+        → on_told c told ≡ on_told c other }
+    ensures others { (m other : Message) → plain_message m ≡ plain_message other → is_to_client other ≡ false → m ≡ other }
 {}

@@ -1,28 +1,27 @@
 // Channels of two clients by hand: node 0 is the server, and node 3 the store.
+ghost use Rattle.std.specs.Prelude.{◌≡◌};
+
 use crate::Channels;
 use plain_types::{FromStore, Message, Sending, Sent, Stamp, Step, ToClient, ToServer, ToStore};
-use snap_ids::{Ino, ListOf, SnapId};
+use snap_ids::{Ino, NoMemory, SnapId};
+use std::alloc::Global;
 use std::test::Fail;
 
 fn said(conn: u64) -> Message {
     Message::ToServer(ToServer::DropRead { conn, ino: Ino(7) })
 }
 
-fn told(id: u64) -> Message {
-    Message::ToClient(ToClient::Restarted {
-        stamp: Stamp {
-            snap: SnapId(id),
-            entry: 0,
-        },
-    })
+fn told(entry: u64) -> Message {
+    let stamp = Stamp {
+        snap: SnapId(1),
+        entry,
+    };
+    Message::ToClient(ToClient::Restarted { stamp })
 }
 
 fn asked(key: u32) -> Message {
-    Message::ToStore(ToStore::ReadHead {
-        key,
-        ino: Ino(7),
-        size: 1,
-    })
+    let ino = Ino(7);
+    Message::ToStore(ToStore::ListClones { key, ino, index: 0 })
 }
 
 fn found(key: u32) -> Message {
@@ -37,9 +36,95 @@ fn reported(id: u64) -> Message {
     Message::ToServer(ToServer::Purged(SnapId(id)))
 }
 
-fn is(message: Option<Message>, other: &Message) -> bool {
-    match message {
-        Some(message) => message == *other,
+// The first client sends to the server.
+fn first_says(channels: &mut Channels, conn: u64) -> Result<(), NoMemory>
+    requires { channels.old.clients ≡ 2 }
+    ensures { channels.new.clients ≡ 2 }
+{
+    let message = Message::ToServer(ToServer::DropRead { conn, ino: Ino(7) });
+    channels.send(1, Sent { to: 0, message })
+}
+
+// The second client sends to the server.
+fn second_says(channels: &mut Channels, conn: u64) -> Result<(), NoMemory>
+    requires { channels.old.clients ≡ 2 }
+    ensures { channels.new.clients ≡ 2 }
+{
+    let message = Message::ToServer(ToServer::DropRead { conn, ino: Ino(7) });
+    channels.send(2, Sent { to: 0, message })
+}
+
+// The second client sends to the store.
+fn second_asks(channels: &mut Channels, key: u32) -> Result<(), NoMemory>
+    requires { channels.old.clients ≡ 2 }
+    ensures { channels.new.clients ≡ 2 }
+{
+    let message = Message::ToStore(ToStore::ListClones {
+        key,
+        ino: Ino(7),
+        index: 0,
+    });
+    channels.send(2, Sent { to: 3, message })
+}
+
+// The store sends to the second client.
+fn second_hears(channels: &mut Channels, key: u32) -> Result<(), NoMemory>
+    requires { channels.old.clients ≡ 2 }
+    ensures { channels.new.clients ≡ 2 }
+{
+    let message = Message::FromStore(FromStore::NotThere { key });
+    channels.send(3, Sent { to: 2, message })
+}
+
+// The server sends to the store.
+fn server_orders(channels: &mut Channels, id: u64) -> Result<(), NoMemory>
+    requires { channels.old.clients ≡ 2 }
+    ensures { channels.new.clients ≡ 2 }
+{
+    let message = Message::ToStore(ToStore::Purge(SnapId(id)));
+    channels.send(0, Sent { to: 3, message })
+}
+
+// The store sends to the server.
+fn store_reports(channels: &mut Channels, id: u64) -> Result<(), NoMemory>
+    requires { channels.old.clients ≡ 2 }
+    ensures { channels.new.clients ≡ 2 }
+{
+    let message = Message::ToServer(ToServer::Purged(SnapId(id)));
+    channels.send(3, Sent { to: 0, message })
+}
+
+// The server sends to both clients, in a list.
+fn server_tells(alloc: Global, channels: &mut Channels, entry: u64) -> Result<(), NoMemory>
+    requires { channels.old.clients ≡ 2 }
+    ensures { channels.new.clients ≡ 2 }
+{
+    let stamp = Stamp {
+        snap: SnapId(1),
+        entry,
+    };
+    let mut sent = Sending::new(alloc);
+    let message = Message::ToClient(ToClient::Restarted { stamp });
+    sent.push(Sent { to: 1, message })?;
+    let message = Message::ToClient(ToClient::Restarted { stamp });
+    sent.push(Sent { to: 2, message })?;
+    channels.send_all(0, sent)
+}
+
+// Whether it is this message that is taken next.
+fn takes(channels: &mut Channels, step: Step, message: &Message) -> bool
+    ensures { channels.new.clients ≡ channels.old.clients }
+{
+    match channels.take(&step) {
+        Some(taken) => taken == *message,
+        None => false,
+    }
+}
+
+// Whether it is this message that waits first.
+fn waits(channels: &Channels, step: Step, message: &Message) -> bool {
+    match channels.first(&step) {
+        Some(first) => *first == *message,
         None => false,
     }
 }
@@ -47,135 +132,77 @@ fn is(message: Option<Message>, other: &Message) -> bool {
 #[test]
 fn first_in_is_first_out(rt: HostRuntime) -> Result<(), Fail> {
     let mut channels = Channels::new(rt.alloc(), 2)?;
-    let step = Step::ServerTakes(1);
-    assert!(rt; channels.is_empty());
-    assert!(rt; !channels.holds(&step));
-    channels.send(
-        1,
-        Sent {
-            to: 0,
-            message: said(4),
-        },
-    )?;
-    channels.send(
-        1,
-        Sent {
-            to: 0,
-            message: said(5),
-        },
-    )?;
-    assert_eq!(rt; channels.len(), 2);
-    assert!(rt; channels.holds(&step));
-    assert!(rt; channels.first(&step) == Some(&said(4)));
-    assert!(rt; is(channels.take(&step), &said(4)));
-    assert!(rt; !channels.is_empty());
-    assert!(rt; is(channels.take(&step), &said(5)));
-    assert!(rt; channels.is_empty());
-    assert!(rt; channels.take(&step).is_none());
-    assert!(rt; channels.first(&step).is_none());
-    assert_eq!(rt; channels.len(), 0);
+    first_says(&mut channels, 4)?;
+    first_says(&mut channels, 5)?;
+    assert!(rt; takes(&mut channels, Step::ServerTakes(1), &said(4)));
+    assert!(rt; takes(&mut channels, Step::ServerTakes(1), &said(5)));
     Ok(())
 }
 
 #[test]
-fn each_pair_has_its_channels(rt: HostRuntime) -> Result<(), Fail> {
+fn the_oldest_message_is_shown(rt: HostRuntime) -> Result<(), Fail> {
     let mut channels = Channels::new(rt.alloc(), 2)?;
-    channels.send(
-        1,
-        Sent {
-            to: 0,
-            message: said(1),
-        },
-    )?;
-    channels.send(
-        2,
-        Sent {
-            to: 0,
-            message: said(2),
-        },
-    )?;
-    channels.send(
-        1,
-        Sent {
-            to: 3,
-            message: asked(1),
-        },
-    )?;
-    channels.send(
-        3,
-        Sent {
-            to: 2,
-            message: found(2),
-        },
-    )?;
-    channels.send(
-        0,
-        Sent {
-            to: 3,
-            message: ordered(3),
-        },
-    )?;
-    channels.send(
-        3,
-        Sent {
-            to: 0,
-            message: reported(4),
-        },
-    )?;
-    assert_eq!(rt; channels.len(), 6);
-    assert!(rt; !channels.holds(&Step::StoreTakes(2)));
-    assert!(rt; !channels.holds(&Step::ClientFromStore(1)));
-    assert!(rt; !channels.holds(&Step::ClientFromServer(1)));
-    assert!(rt; is(channels.take(&Step::ServerTakes(2)), &said(2)));
-    assert!(rt; is(channels.take(&Step::ServerTakes(3)), &reported(4)));
-    assert!(rt; is(channels.take(&Step::ServerTakes(1)), &said(1)));
-    assert!(rt; is(channels.take(&Step::StoreTakes(0)), &ordered(3)));
-    assert!(rt; is(channels.take(&Step::StoreTakes(1)), &asked(1)));
-    assert!(rt; is(channels.take(&Step::ClientFromStore(2)), &found(2)));
+    first_says(&mut channels, 4)?;
+    first_says(&mut channels, 5)?;
+    assert!(rt; waits(&channels, Step::ServerTakes(1), &said(4)));
+    assert_eq!(rt; channels.len(), 2);
+    Ok(())
+}
+
+#[test]
+fn messages_are_counted(rt: HostRuntime) -> Result<(), Fail> {
+    let mut channels = Channels::new(rt.alloc(), 2)?;
     assert!(rt; channels.is_empty());
+    first_says(&mut channels, 4)?;
+    second_says(&mut channels, 5)?;
+    assert_eq!(rt; channels.len(), 2);
+    assert!(rt; takes(&mut channels, Step::ServerTakes(2), &said(5)));
+    assert_eq!(rt; channels.len(), 1);
+    assert!(rt; !takes(&mut channels, Step::ServerTakes(2), &said(5)));
+    assert!(rt; !channels.is_empty());
+    Ok(())
+}
+
+#[test]
+fn clients_and_the_store_have_channels(rt: HostRuntime) -> Result<(), Fail> {
+    let mut channels = Channels::new(rt.alloc(), 2)?;
+    second_asks(&mut channels, 6)?;
+    second_hears(&mut channels, 7)?;
+    assert!(rt; !channels.holds(&Step::ClientFromServer(2)));
+    assert!(rt; takes(&mut channels, Step::StoreTakes(2), &asked(6)));
+    assert!(rt; takes(&mut channels, Step::ClientFromStore(2), &found(7)));
+    Ok(())
+}
+
+#[test]
+fn the_server_and_the_store_have_channels(rt: HostRuntime) -> Result<(), Fail> {
+    let mut channels = Channels::new(rt.alloc(), 2)?;
+    server_orders(&mut channels, 8)?;
+    store_reports(&mut channels, 9)?;
+    assert!(rt; !channels.holds(&Step::ServerTakes(2)));
+    assert!(rt; takes(&mut channels, Step::StoreTakes(0), &ordered(8)));
+    assert!(rt; takes(&mut channels, Step::ServerTakes(3), &reported(9)));
     Ok(())
 }
 
 #[test]
 fn a_list_is_sent_in_its_order(rt: HostRuntime) -> Result<(), Fail> {
     let mut channels = Channels::new(rt.alloc(), 2)?;
-    let mut sent: Sending = ListOf::new(rt.alloc());
-    sent.push(Sent {
-        to: 1,
-        message: told(2),
-    })?;
-    sent.push(Sent {
-        to: 2,
-        message: told(3),
-    })?;
-    sent.push(Sent {
-        to: 1,
-        message: told(4),
-    })?;
-    channels.send_all(0, sent)?;
-    assert_eq!(rt; channels.len(), 3);
-    assert!(rt; is(channels.take(&Step::ClientFromServer(1)), &told(2)));
-    assert!(rt; is(channels.take(&Step::ClientFromServer(1)), &told(4)));
-    assert!(rt; is(channels.take(&Step::ClientFromServer(2)), &told(3)));
-    assert!(rt; channels.is_empty());
+    server_tells(rt.alloc(), &mut channels, 2)?;
+    server_tells(rt.alloc(), &mut channels, 3)?;
+    assert!(rt; takes(&mut channels, Step::ClientFromServer(1), &told(2)));
+    assert!(rt; takes(&mut channels, Step::ClientFromServer(1), &told(3)));
+    assert!(rt; takes(&mut channels, Step::ClientFromServer(2), &told(2)));
     Ok(())
 }
 
 #[test]
-fn a_step_that_takes_nothing_has_no_message(rt: HostRuntime) -> Result<(), Fail> {
+fn what_takes_nothing_has_no_message(rt: HostRuntime) -> Result<(), Fail> {
     let mut channels = Channels::new(rt.alloc(), 2)?;
-    channels.send(
-        1,
-        Sent {
-            to: 0,
-            message: said(1),
-        },
-    )?;
+    first_says(&mut channels, 4)?;
     assert!(rt; !channels.holds(&Step::Commit));
     assert!(rt; !channels.holds(&Step::Op(1)));
-    assert!(rt; channels.take(&Step::Tend).is_none());
-    assert!(rt; channels.take(&Step::ServerTakes(0)).is_none());
-    assert!(rt; channels.take(&Step::ServerTakes(200)).is_none());
-    assert_eq!(rt; channels.len(), 1);
+    assert!(rt; !channels.holds(&Step::ServerTakes(0)));
+    assert!(rt; !channels.holds(&Step::ServerTakes(200)));
     Ok(())
 }
