@@ -108,6 +108,13 @@ impl Session {
         Ok(())
     }
 
+    /// The number of the current connection, 0 where there is none.
+    pub fn current(&self) -> u64
+        ensures { result ≡ self.now.current }
+    {
+        self.current
+    }
+
     /// Whether a connection is the current one.
     pub fn is_current(&self, conn: u64) -> bool
         ensures { result ≡ is_current self.now conn }

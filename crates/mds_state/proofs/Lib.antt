@@ -1,0 +1,14 @@
+pub mod Files
+pub mod Told
+pub mod Known
+pub mod Enters
+pub mod Alone
+pub mod Marks
+pub mod Tenured
+pub mod Waits
+pub mod Acted
+pub mod Asks
+pub mod Quiet
+pub mod Handed
+pub mod Seats
+pub mod Places

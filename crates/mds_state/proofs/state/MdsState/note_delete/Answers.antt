@@ -1,0 +1,11 @@
+use Rattle.std.proofs.Common.{ap, subst, sym, ◌∙◌}
+use Rattle.mds_state.specs.Parts.{Parts}
+use Rattle.mds_state.specs.Noted.{delete_noted}
+use Rattle.mds_state.specs.Stands.{StandsFor}
+use Rattle.mds_state.proofs.Told.{delete_sent}
+use Rattle.mds_state.proofs.state.MdsState.note_delete.Goals as goal
+
+pub returns-clause-table : goal.returns-clause-table
+returns-clause-table c = λ s taken stands.
+    rw c.in_ok-push.ensures.ok
+    (delete_sent _ taken s c.args.ino (subst (λ (p : Parts). StandsFor p taken s) (sym c.self.view_is) stands))

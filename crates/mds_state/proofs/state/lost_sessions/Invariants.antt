@@ -1,0 +1,10 @@
+use Rattle.std.proofs.Common.{◌≡◌, ◌≤◌, ◌-◌, replicate}
+use Rattle.session_link.specs.Sessions.{first}
+use Rattle.server_sessions.specs.Calls.{lost}
+use Rattle.mds_state.proofs.state.lost_sessions.Given as goal
+
+abbrev pub invariant-loop-made : goal.invariant-loop-made
+invariant-loop-made l = (l.sessions.items ≡ replicate l.made (lost first)) × (l.made ≤ l.clients)
+
+abbrev pub decreases-loop-made : goal.decreases-loop-made
+decreases-loop-made l = l.clients - l.made

@@ -1,0 +1,23 @@
+//! The state of a metadata server with its acts: what it knows, what it makes and hasn't sent, and the small changes of
+//! which its rules are made. Ceph developer guide, CephFS Snapshots.
+#![tactic(auto)]
+
+mod asked;
+mod buffering;
+mod change;
+mod holders;
+mod links;
+mod looks;
+mod rows;
+mod state;
+mod telling;
+mod tenures;
+mod waiting;
+mod written;
+
+pub use asked::Asked;
+pub use state::MdsState;
+pub use tenures::Given;
+
+#[cfg(test)]
+mod tests;
