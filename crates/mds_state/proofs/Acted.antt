@@ -1,5 +1,5 @@
 -- Acts on what is held.
-use Rattle.std.proofs.Common.{◌≡◌, ℕ, ◌≤◌, List, [], ◌∷◌, ◌++◌, map, find, filter, Bool, true, false, not, cond, Option, None, Some, refl, sym, ap, subst, ◌∙◌}
+use Rattle.std.proofs.Common.{◌≡◌, ℕ, ◌≤◌, List, [], ◌∷◌, ◌++◌, map, find, filter, Bool, true, false, not, Option, None, Some, refl, sym, subst}
 use Rattle.std.specs.Prelude.{◌&&◌, ◌==◌, if◌then◌else◌}
 use Rattle.std.specs.List.{list_any, list_all}
 use Rattle.snap_ids.specs.declared.id.Ino.{Ino}
@@ -13,13 +13,13 @@ use Rattle.held_files.specs.Files.{is_write}
 use Rattle.cap_state.specs.Table as table
 use Rattle.cap_state.specs.Table.{Holding, IsTable}
 use Rattle.server_holders.specs.Stands.{Marks, HoldersStand, marked, unmarked, none_marked}
-use Rattle.step_table.specs.Acts.{Act, Hold, Raise, LetGo, LetAllGo, MarkRecalled, Settled, act, acts, each, recalled, settled}
-use Rattle.step_table.specs.Capabilities.{clash, in_conflict, give_to, give, tenure}
+use Rattle.step_table.specs.Acts.{Hold, Raise, LetGo, LetAllGo, MarkRecalled, Settled, act, acts, each, recalled, settled}
+use Rattle.step_table.specs.Capabilities.{clash, give_to, give}
 use Rattle.step_table.specs.Flushes.{claimed, take_claim}
 use Rattle.step_table.specs.ServerState.{Asked, Holder, Server, is_holder}
 use Rattle.mds_state.specs.Parts.{TenureParts, Parts, marks_in}
 use Rattle.mds_state.specs.Stands.{TenuresStand, StandsFor}
-use Rattle.mds_state.specs.Tenures.{let_go_parts, rebuilt_parts, unmark, unmark_all}
+use Rattle.mds_state.specs.Tenures.{let_go_parts, rebuilt_parts}
 use Rattle.mds_state.proofs.Marks.{marked_is, unmarked_is, none_marked_is}
 use Rattle.mds_state.proofs.Tenured.{Sound, sound, sound_marked, sound_settled, sound_filter, sound_claimed}
 

@@ -1,6 +1,5 @@
 -- One more entry that is written down.
-use Rattle.std.proofs.Common.{◌≡◌, ℕ, ◌+◌, ◌≤◌, List, [], ◌∷◌, ◌++◌, length, drop, filter, Bool, true, false, cond, Option, None, Some, refl, sym, ap, subst, ◌∙◌, arith, length-append}
-use Rattle.std.specs.Prelude.{filter_map}
+use Rattle.std.proofs.Common.{◌≡◌, ℕ, ◌+◌, List, [], ◌∷◌, ◌++◌, length, filter, Bool, true, false, cond, Option, None, refl, sym, ap, subst, ◌∙◌, arith, length-append}
 use Rattle.std.specs.List.{cons_option}
 use Rattle.std.proofs.lemmas.List.{drop-append-le}
 use Rattle.std.proofs.lemmas.List.Elements.{filter-append, filter_map-append}
@@ -8,10 +7,8 @@ use Rattle.snap_ids.specs.declared.id.SnapId.{SnapId}
 use Rattle.plain_types.specs.declared.entry.Entry.{Entry}
 use Rattle.plain_types.specs.declared.entry.What.{What}
 use Rattle.plain_types.specs.declared.entry.What.TheVariants as what
-use Rattle.plain_journal.specs.Legal.{is_journal}
-use Rattle.plain_journal.specs.Table.{prepares, next_snap, operation_by, outstanding_from, outstanding, removed_by}
+use Rattle.plain_journal.specs.Table.{prepares, next_snap, operation_by, outstanding_from, removed_by}
 use Rattle.journal_table.specs.Stands.{TableStands}
-use Rattle.journal_table.specs.Calls.{called}
 use Rattle.journal_table.proofs.Steps.{leads_on}
 use Rattle.meta_state.specs.Stands as meta
 use Rattle.snap_table.specs.Table.{Table}

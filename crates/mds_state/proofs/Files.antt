@@ -1,5 +1,5 @@
 -- What the tree says of a file that was made: its shape, and that the realms have it with its context.
-use Rattle.std.proofs.Common.{◌≡◌, ℕ, ◌≤◌, List, Bool, true, false, cond, ◌||◌, Option, None, Some, refl, sym, ap, subst, ◌∙◌, arith, eqb}
+use Rattle.std.proofs.Common.{◌≡◌, ℕ, ◌≤◌, List, Bool, true, false, cond, ◌||◌, None, Some, refl, sym, ap, ◌∙◌, arith, eqb}
 use Rattle.std.specs.Prelude.{option_map}
 use Rattle.std.proofs.lemmas.Bool.Decides.{nat_tests}
 use Rattle.snap_ids.specs.declared.id.Ino.{Ino}
@@ -12,7 +12,6 @@ use Rattle.plain_journal.specs.Coverage.{is_made, context}
 use Rattle.plain_journal.specs.Entries.{state_after, tree_at}
 use Rattle.plain_journal.specs.Legal.{is_made_file, is_journal}
 use Rattle.plain_journal.specs.Settled.{Shape, settled_size}
-use Rattle.inode_versions.specs.declared.attr.Attr.{Attr}
 use Rattle.journal_moments.proofs.Moments.{above_now, applied_below_nosnap}
 use Rattle.journal_realms.specs.Told.{family_of}
 use Rattle.journal_realms.proofs.Kept.{file_is}

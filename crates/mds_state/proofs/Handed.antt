@@ -1,8 +1,7 @@
 -- The end of a step, and a commit.
-use Rattle.std.proofs.Common.{◌≡◌, ℕ, ◌+◌, ◌≤◌, List, [], ◌∷◌, ◌++◌, map, take, drop, length, Bool, true, false, cond, Option, None, refl, sym, ap, subst, ◌∙◌, arith}
+use Rattle.std.proofs.Common.{◌≡◌, ℕ, ◌+◌, ◌≤◌, List, [], ◌∷◌, map, take, drop, length, Bool, true, false, cond, Option, None, refl, sym, ap, ◌∙◌, arith}
 use Rattle.std.proofs.lemmas.Bool.Decides.{nat_tests}
 use Rattle.std.specs.Prelude.{nat_le}
-use Rattle.plain_types.specs.declared.change.Effect.{Effect}
 use Rattle.plain_types.specs.declared.entry.Entry.{Entry}
 use Rattle.plain_types.specs.declared.history.Sent.{Sent}
 use Rattle.plain_journal.specs.Table.{effects_from}

@@ -10,7 +10,7 @@ use Rattle.snap_ids.specs.declared.id.Ino.{Ino}
 use Rattle.snap_ids.specs.declared.values.Mode.{Mode}
 use Rattle.plain_tree.specs.State.{same_ino}
 use Rattle.cap_state.specs.Table.{mode_of, suffices}
-use Rattle.server_holders.specs.Stands.{Marks, marked, unmarked, none_marked, marks_after}
+use Rattle.server_holders.specs.Stands.{marked, unmarked, none_marked, marks_after}
 use Rattle.mds_state.specs.Parts.{TenureParts, is_mark, marks_in}
 use Rattle.mds_state.specs.Tenures.{unmark, unmark_all, marks_given}
 use Rattle.mds_state.proofs.Alone.{both}

@@ -1,8 +1,8 @@
 -- What is found in a list, and what is left without it.
-use Rattle.std.proofs.Common.{◌≡◌, ℕ, suc, ◌+◌, List, [], ◌∷◌, ◌++◌, take, drop, filter, find, get_or, length, Bool, true, false, not, cond, Option, None, Some, refl, sym, ap, ◌∙◌, arith}
+use Rattle.std.proofs.Common.{◌≡◌, ℕ, suc, ◌+◌, List, [], ◌∷◌, filter, find, get_or, length, Bool, true, false, not, cond, Option, None, Some, refl, sym, ap, ◌∙◌, arith}
 use Rattle.std.proofs.lemmas.Bool.Decides.{nat_tests}
 use Rattle.std.specs.Prelude.{◌||◌, ◌<◌, ◌↔◌, IfSome, OnSome, IsSome, is_some, option_map, nat_lt, remove, position}
-use Rattle.std.specs.List.{list_any, position_or_len, prefix_len}
+use Rattle.std.specs.List.{list_any, position_or_len}
 use Rattle.snap_ids.specs.declared.id.Ino.{Ino}
 use Rattle.cap_state.specs.Table.{Holding, is_at, mode_of}
 use Rattle.step_table.specs.Acts.{first_of}

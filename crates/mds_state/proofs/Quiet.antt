@@ -18,12 +18,11 @@ use Rattle.journal_laws.specs.Entries.{changes_contexts}
 use Rattle.journal_laws.proofs.Steady.{steady_in}
 use Rattle.session_link.specs.Sessions.{Link}
 use Rattle.server_sessions.specs.Calls.{at_client, called, IsOf}
-use Rattle.server_sessions.specs.Sessions.{SessionsStand}
 use Rattle.server_sessions.proofs.Steps.{entry_leads}
-use Rattle.step_table.specs.Acts.{act, Buffer, MakeEffect, Prepare, same_ids, same_context, changed_files, tell_changed, notices, buffer, written_down, entry_for, buffer_for, effect_hand, prepare_hand}
+use Rattle.step_table.specs.Acts.{act, Buffer, MakeEffect, Prepare, same_ids, same_context, tell_changed, notices, buffer, written_down, entry_for, buffer_for, effect_hand, prepare_hand}
 use Rattle.step_table.specs.ServerState.{Asked, Server, up_to, written_by}
 use Rattle.mds_state.specs.Parts.{WrittenParts, Parts}
-use Rattle.mds_state.specs.Stands.{bare, entered, WrittenStands, TenuresStand, StandsFor}
+use Rattle.mds_state.specs.Stands.{bare, entered, WrittenStands, StandsFor}
 use Rattle.mds_state.proofs.Known.{files_more}
 use Rattle.mds_state.proofs.Seats.{flushed_is}
 

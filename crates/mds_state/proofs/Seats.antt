@@ -4,7 +4,6 @@ use Rattle.std.proofs.lemmas.Bool.{eqb-true}
 use Rattle.std.proofs.lemmas.Bool.Decides.{nat_tests}
 use Rattle.std.specs.Prelude.{◌&&◌, ◌==◌, is_some, if◌then◌else◌}
 use Rattle.std.specs.List.{list_all}
-use Rattle.plain_types.specs.declared.answer.Answer.{Answer}
 use Rattle.plain_journal.specs.Table.{last_flush}
 use Rattle.session_link.specs.Sessions as sessions
 use Rattle.session_link.specs.Sessions.{Link, kept_for}

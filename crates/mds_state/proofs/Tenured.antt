@@ -1,5 +1,5 @@
 -- Who holds what, from one act to the next.
-use Rattle.std.proofs.Common.{◌≡◌, ℕ, ◌≤◌, List, [], ◌∷◌, ◌++◌, map, find, Bool, true, false, not, cond, Option, None, Some, refl, sym, ap, subst, ◌∙◌, arith}
+use Rattle.std.proofs.Common.{◌≡◌, ℕ, ◌≤◌, List, [], ◌∷◌, ◌++◌, map, find, Bool, true, false, not, cond, Option, None, Some, refl, sym, subst, arith}
 use Rattle.std.proofs.lemmas.Bool.Decides.{nat_tests}
 use Rattle.std.specs.Prelude.{◌||◌, ◌&&◌, ◌==◌, nat_lt, nat_le, filter, if◌then◌else◌}
 use Rattle.std.specs.List.{list_any, list_all}
@@ -9,23 +9,17 @@ use Rattle.snap_ids.specs.declared.values.Mode.{Mode}
 use Rattle.snap_ids.specs.declared.values.Mode.TheVariants.{Read, Write}
 use Rattle.plain_types.specs.declared.entry.Entry.{Entry}
 use Rattle.plain_types.specs.declared.message.Claim.{Claim}
-use Rattle.plain_tree.specs.State.{same_ino}
 use Rattle.plain_journal.specs.Entries.{applied, state_after}
 use Rattle.plain_journal.specs.Legal.{is_made_file}
 use Rattle.held_files.specs.Files.{is_write}
-use Rattle.cap_state.specs.Table as table
-use Rattle.cap_state.specs.Table.{IsTable}
 use Rattle.server_holders.specs.Answers.{are_clients}
-use Rattle.server_holders.specs.Stands.{HoldersStand, marked}
-use Rattle.step_table.specs.Acts.{Act, Hold, Raise, LetGo, LetAllGo, MarkRecalled, Settled, act, acts, each, recalled, settled, raised}
+use Rattle.step_table.specs.Acts.{Act, Hold, Raise, act, acts, each, recalled, settled, raised}
 use Rattle.step_table.specs.Capabilities.{OneWriter, clash, is_against, in_conflict, tenure, give_to, give}
 use Rattle.step_table.specs.Flushes.{claimed, take_claim}
 use Rattle.step_table.specs.ServerState.{Holder, Server, is_holder}
-use Rattle.mds_state.specs.Parts.{TenureParts, marks_in}
+use Rattle.mds_state.specs.Parts.{TenureParts}
 use Rattle.mds_state.specs.Stands.{is_of_file, TenuresStand}
-use Rattle.mds_state.specs.Tenures.{let_go_parts}
 use Rattle.mds_state.proofs.Alone.{neither, both, one_append, one_filter, one_same, one_raised, all_append, all_filter, all_map}
-use Rattle.mds_state.proofs.Marks.{marked_is, unmarked_is}
 
 -- each holder is a client, of these many
 abbrev pub is_theirs : ℕ → Holder → Bool

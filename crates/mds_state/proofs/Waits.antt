@@ -3,7 +3,6 @@ use Rattle.std.proofs.Common.{◌≡◌, ℕ, ◌<◌, ◌≤◌, List, [], ◌�
 use Rattle.plain_types.specs.declared.entry.Entry.{Entry}
 use Rattle.session_link.specs.Sessions.{Link}
 use Rattle.server_sessions.specs.Calls.{with_session, connected_at}
-use Rattle.server_sessions.specs.Sessions.{SessionsStand}
 use Rattle.server_sessions.proofs.Steps.{connection_taken}
 use Rattle.step_table.specs.Acts.{act, as_list, first_of, of_client, Wait, Defer, DeferFirst, TakeHeld, TakeDeferred, TakeOperation}
 use Rattle.step_table.specs.Flushes.{connected}

@@ -1,7 +1,6 @@
 -- Which states of the protocol's table the parts of a server stand for.
-use Rattle.std.specs.Prelude.{◌≡◌, ℕ, ◌+◌, ◌<◌, Bool, true, List, [], ◌∷◌, ◌++◌, length, map, drop, Option, None, Some}
+use Rattle.std.specs.Prelude.{◌≡◌, ℕ, ◌+◌, ◌<◌, Bool, true, List, [], ◌∷◌, ◌++◌, length, map, drop, Option, None}
 use Rattle.std.specs.List.{list_all}
-use Rattle.snap_ids.specs.declared.id.Ino.{Ino}
 use Rattle.plain_types.specs.declared.entry.Entry.{Entry}
 use Rattle.plain_types.specs.declared.history.Sent.{Sent}
 use Rattle.plain_journal.specs.Entries.{state_after}
@@ -18,7 +17,7 @@ use Rattle.server_sessions.specs.Sessions.{SessionsStand}
 use Rattle.step_table.specs.Background.{removed}
 use Rattle.step_table.specs.Capabilities.{OneWriter}
 use Rattle.step_table.specs.Messages.{plain_sent}
-use Rattle.step_table.specs.ServerState.{Asked, Holder, Server, new_server}
+use Rattle.step_table.specs.ServerState.{Asked, Holder, Server}
 use Rattle.mds_state.specs.Parts.{WrittenParts, TenureParts, Parts, marks_in}
 
 -- the tree, the table and what isn't durable stand for the entries of a journal, so many of which are durable; each entry

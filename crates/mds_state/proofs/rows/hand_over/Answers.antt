@@ -1,4 +1,4 @@
-use Rattle.std.proofs.Common.{◌≡◌, ◌≤◌, ◌++◌, ◌∷◌, [], List, ℕ, ap, sym, ◌∙◌, arith, append_assoc}
+use Rattle.std.proofs.Common.{◌≤◌, ◌++◌, ◌∷◌, [], List, ℕ, ap, sym, ◌∙◌, arith, append_assoc}
 use Rattle.plain_types.specs.declared.history.Sent.{Sent}
 use Rattle.step_table.specs.Acts.{goes, waits}
 use Rattle.mds_state.proofs.Handed.{goes_on, waits_on}

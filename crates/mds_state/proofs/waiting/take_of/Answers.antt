@@ -1,4 +1,4 @@
-use Rattle.std.proofs.Common.{◌≡◌, List, ap, sym, ◌∙◌}
+use Rattle.std.proofs.Common.{sym, ◌∙◌}
 use Rattle.step_table.specs.Acts.{of_client}
 use Rattle.mds_state.proofs.Places.{none_taken, one_taken}
 use Rattle.mds_state.proofs.waiting.take_of.Goals as goal

@@ -1,5 +1,5 @@
-use Rattle.std.proofs.Common.{ℕ, None, Some, ap, subst, ◌∙◌}
-use Rattle.step_table.specs.ServerState.{Server, Asked, Answered, tell}
+use Rattle.std.proofs.Common.{ℕ, None, Some, subst}
+use Rattle.step_table.specs.ServerState.{Answered, tell}
 use Rattle.mds_state.specs.Stands.{StandsFor}
 use Rattle.mds_state.proofs.Told.{freed, answers}
 use Rattle.mds_state.proofs.state.MdsState.answer.Goals as goal

@@ -1,4 +1,4 @@
-use Rattle.std.proofs.Common.{List, Option, subst, sym}
+use Rattle.std.proofs.Common.{subst, sym}
 use Rattle.meta_state.specs.Stands as meta
 use Rattle.meta_state.specs.Stands.{Tables}
 use Rattle.mds_state.specs.Parts.{Parts}

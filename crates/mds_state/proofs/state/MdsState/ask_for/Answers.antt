@@ -1,4 +1,4 @@
-use Rattle.std.proofs.Common.{◌≡◌, ℕ, ◌≤◌, ap, ◌∙◌, subst, sym}
+use Rattle.std.proofs.Common.{ℕ, ◌≤◌, subst, sym}
 use Rattle.snap_ids.specs.declared.id.SnapId.{SnapId}
 use Rattle.plain_journal.specs.Entries.{applied}
 use Rattle.step_table.specs.ServerState.{Asked, Server}

@@ -1,5 +1,5 @@
-use Rattle.std.proofs.Common.{ℕ, None, Some, ap, subst, ◌∙◌}
-use Rattle.step_table.specs.ServerState.{Server, Asked, Granted, tell}
+use Rattle.std.proofs.Common.{ℕ, None, Some, subst}
+use Rattle.step_table.specs.ServerState.{Granted, tell}
 use Rattle.mds_state.specs.Stands.{StandsFor}
 use Rattle.mds_state.proofs.Told.{freed, grants}
 use Rattle.mds_state.proofs.state.MdsState.grant.Goals as goal

@@ -1,4 +1,4 @@
-use Rattle.std.proofs.Common.{List, ◌++◌, ap, subst, sym, ◌∙◌, map}
+use Rattle.std.proofs.Common.{◌++◌, ap, subst, sym, ◌∙◌, map}
 use Rattle.step_table.specs.Acts.{goes}
 use Rattle.step_table.specs.Messages.{plain_sent}
 use Rattle.mds_state.specs.Parts.{Parts}

@@ -1,4 +1,4 @@
-use Rattle.std.proofs.Common.{List, ℕ, map, ap, subst, sym, ◌∙◌}
+use Rattle.std.proofs.Common.{map, ap, subst, sym, ◌∙◌}
 use Rattle.cap_state.specs.Table.{Holding}
 use Rattle.mds_state.specs.Parts.{Parts}
 use Rattle.mds_state.specs.Stands.{StandsFor}

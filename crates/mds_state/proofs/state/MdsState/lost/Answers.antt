@@ -1,4 +1,4 @@
-use Rattle.std.proofs.Common.{List, [], map, refl, ap, subst, sym, ◌∙◌}
+use Rattle.std.proofs.Common.{[], map, refl, ap, subst, sym, ◌∙◌}
 use Rattle.mds_state.specs.Parts.{TenureParts, marks_in}
 use Rattle.mds_state.specs.Stands.{bare, plain_mail, TenuresStand}
 use Rattle.mds_state.proofs.state.MdsState.lost.Goals as goal

@@ -1,6 +1,5 @@
-use Rattle.std.proofs.Common.{ap, subst, sym, ◌∙◌}
+use Rattle.std.proofs.Common.{subst, sym}
 use Rattle.mds_state.specs.Parts.{Parts}
-use Rattle.mds_state.specs.Noted.{delete_noted}
 use Rattle.mds_state.specs.Stands.{StandsFor}
 use Rattle.mds_state.proofs.Told.{delete_sent}
 use Rattle.mds_state.proofs.state.MdsState.note_delete.Goals as goal

@@ -1,6 +1,5 @@
-use Rattle.std.proofs.Common.{ap, subst, sym, ◌∙◌}
+use Rattle.std.proofs.Common.{subst, sym}
 use Rattle.mds_state.specs.Parts.{Parts}
-use Rattle.mds_state.specs.Noted.{purge_noted}
 use Rattle.mds_state.specs.Stands.{StandsFor}
 use Rattle.mds_state.proofs.Told.{purge_sent}
 use Rattle.mds_state.proofs.state.MdsState.note_purge.Goals as goal

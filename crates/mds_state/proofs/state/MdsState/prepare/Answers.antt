@@ -1,4 +1,4 @@
-use Rattle.std.proofs.Common.{None, Some}
+use Rattle.std.proofs.Common.{None}
 use Rattle.mds_state.proofs.Quiet.{prepares}
 use Rattle.mds_state.proofs.state.MdsState.prepare.Goals as goal
 

@@ -1,4 +1,4 @@
-use Rattle.std.proofs.Common.{Bool, true, false, List, [], ◌∷◌, ap, sym, subst, ◌∙◌}
+use Rattle.std.proofs.Common.{Bool, [], ◌∷◌, sym, subst, ◌∙◌}
 use Rattle.std.specs.Prelude.{if◌then◌else◌}
 use Rattle.step_table.specs.Acts.{MarkRecalled, TellRecall, acts}
 use Rattle.mds_state.specs.Stands.{StandsFor}

@@ -1,4 +1,4 @@
-use Rattle.std.proofs.Common.{subst, sym, ◌∙◌}
+use Rattle.std.proofs.Common.{subst, sym}
 use Rattle.mds_state.specs.Parts.{Parts}
 use Rattle.mds_state.specs.Stands.{StandsFor}
 use Rattle.mds_state.proofs.Told.{mailed}

@@ -1,4 +1,4 @@
-use Rattle.std.proofs.Common.{ℕ, ap, subst, sym, ◌∙◌}
+use Rattle.std.proofs.Common.{ap, subst, sym, ◌∙◌}
 use Rattle.snap_ids.specs.Context.{is_listed}
 use Rattle.plain_journal.specs.Coverage.{covering}
 use Rattle.server_holders.specs.Answers.{owing_by}

@@ -1,4 +1,4 @@
-use Rattle.std.proofs.Common.{◌≡◌, true, ap, subst, sym, ◌∙◌}
+use Rattle.std.proofs.Common.{ap, subst, sym, ◌∙◌}
 use Rattle.journal_realms.specs.Told.{family_of}
 use Rattle.meta_state.specs.Stands as meta
 use Rattle.snap_realm.specs.Tree as realms

@@ -1,7 +1,6 @@
 use Rattle.std.proofs.Common.{ℕ, ap, subst, sym, ◌∙◌}
 use Rattle.journal_realms.specs.Told.{family_of}
 use Rattle.journal_realms.proofs.Last.{same_applied}
-use Rattle.plain_types.specs.declared.message.Stamp.{Stamp}
 use Rattle.snap_ids.specs.declared.id.SnapId.{SnapId}
 use Rattle.meta_state.specs.Stands as meta
 use Rattle.snap_realm.specs.Tree as realms
