@@ -68,7 +68,7 @@ past_of last ino (Settle file follows upto size) is = by_test (same_ino file ino
 past_of last ino (Release file follows size) is = by_test (same_ino file ino)
   where
     by_test : (b : Bool) → cond b (nat_le follows.0 last) true ≡ true
-    by_test true = grind (arith, nat_tests, is)
+    by_test true = let less = is.0 in grind (arith, nat_tests, less)
     by_test false = refl
 past_of last ino w is = refl
 
@@ -83,19 +83,19 @@ past_rest script history ino done (e ∷ rest) later entries all = both_true (is
     (past_rest script history ino (done ++ e ∷ []) rest later (entries ∙ sym (append_assoc done (e ∷ []) (rest ++ later))) (subst (λ (n : ℕ). AllNameUpto n rest) (sym (newest_more done e)) all.1)))
 
 pub entered_law : (script : Script) (history : List Event) (ino : Ino) → flushes_are_past (world_after script history).server.entries ino ≡ true
-entered_law script history ino = past_rest script history ino [] (world_after script history).server.entries [] (sym (append-nil (world_after script history).server.entries)) (fine script (steps_of history)).1.entered
+entered_law script history ino = past_rest script history ino [] (world_after script history).server.entries [] (sym (append-nil (world_after script history).server.entries)) (fine script (steps_of history)).entered
 
 names_made : (script : Script) (history : List Event) (before later : List Entry) (e : Entry) → (world_after script history).server.entries ≡ before ++ e ∷ later → NamesUpto (applied before) e.what
 names_made script history before later e entries = subst (λ (n : ℕ). NamesUpto n e.what) (newest_is script history before (e ∷ later) entries)
-    (names_at 1 before later e (subst (AllNameUpto 1) entries (fine script (steps_of history)).1.entered))
+    (names_at 1 before later e (subst (AllNameUpto 1) entries (fine script (steps_of history)).entered))
 
 pub settled_law : (script : Script) (history : List Event) (before later : List Entry) (e : Entry) (ino : Ino) (follows upto : SnapId) (size : ℕ)
     → (world_after script history).server.entries ≡ before ++ e ∷ later → e.what ≡ Settle ino follows upto size → (follows.0 ≤ applied before) × (upto.0 ≤ applied before)
-settled_law script history before later e ino follows upto size entries is = subst (NamesUpto (applied before)) is (names_made script history before later e entries)
+settled_law script history before later e ino follows upto size entries is = let names : NamesUpto (applied before) (Settle ino follows upto size) = subst (NamesUpto (applied before)) is (names_made script history before later e entries) in (names.0, names.1)
 
 pub released_law : (script : Script) (history : List Event) (before later : List Entry) (e : Entry) (ino : Ino) (follows : SnapId) (size : ℕ)
     → (world_after script history).server.entries ≡ before ++ e ∷ later → e.what ≡ Release ino follows size → follows.0 ≤ applied before
-released_law script history before later e ino follows size entries is = subst (NamesUpto (applied before)) is (names_made script history before later e entries)
+released_law script history before later e ino follows size entries is = let names : NamesUpto (applied before) (Release ino follows size) = subst (NamesUpto (applied before)) is (names_made script history before later e entries) in names.0
 
 -- the durable entries are the first ones
 split : (w : World) → w.server.entries ≡ journal w ++ drop w.server.durable w.server.entries
@@ -105,11 +105,11 @@ pub durable_law : (script : Script) (history : List Event) (ino : Ino) → flush
 durable_law script history ino =
     let w = world_after script history in
     past_rest script history ino [] (journal w) (drop w.server.durable w.server.entries) (split w)
-    (names_front 1 (journal w) (drop w.server.durable w.server.entries) (subst (AllNameUpto 1) (split w) (fine script (steps_of history)).1.entered))
+    (names_front 1 (journal w) (drop w.server.durable w.server.entries) (subst (AllNameUpto 1) (split w) (fine script (steps_of history)).entered))
 
 -- what is told
 told_made : (script : Script) (history : List Event) (told : ToClient) → TellsUpto (journal (world_after script history)) told → IsOfMade (journal (world_after script history)) told
-told_made script history told is = (is.0, subst (λ (n : ℕ). ToldUpto n told) (newest_is script history (take (entry_of told) (journal w)) (drop (entry_of told) (journal w) ++ drop w.server.durable w.server.entries) whole ∙ sym is.0.1) is.1)
+told_made script history told is = (is.0, subst (λ (n : ℕ). ToldUpto n told) (newest_is script history (take (entry_of told) (journal w)) (drop (entry_of told) (journal w) ++ drop w.server.durable w.server.entries) whole ∙ sym is.0.1) is.1.0)
   where
     w : World
     w = world_after script history
@@ -126,7 +126,7 @@ pub told_law : (script : Script) (history : List Event) → EachClient ToldOfMad
 told_law script history n =
     let w = world_after script history in
     any_client (client w.clients n) (λ (c : Client). AllByRecursion (IsOfMade (journal w)) (mine n w.down)) (λ c.
-    all_weaker (TellsUpto (journal w)) (IsOfMade (journal w)) (told_made script history) (mine n w.down) (every_mine (TellsUpto (journal w)) n w.down (fine script (steps_of history)).1.around.tells))
+    all_weaker (TellsUpto (journal w)) (IsOfMade (journal w)) (told_made script history) (mine n w.down) (every_mine (TellsUpto (journal w)) n w.down (fine script (steps_of history)).around.tells))
 
 -- what is kept and said
 last_is : (script : Script) (history : List Event) → newest (journal (world_after script history)) ≡ applied (journal (world_after script history))
@@ -135,10 +135,10 @@ last_is script history = let w = world_after script history in newest_is script 
 pub keeps_law : (script : Script) (history : List Event) → EachClient KeepsMade (world_after script history)
 keeps_law script history n =
     let w = world_after script history in
-    subst (λ (last : ℕ). IfSome (client w.clients n) (KeepsUpto last)) (last_is script history) (every_client (KeepsUpto (newest (journal w))) n w.clients (fine script (steps_of history)).1.around.keeps)
+    subst (λ (last : ℕ). IfSome (client w.clients n) (KeepsUpto last)) (last_is script history) (every_client (KeepsUpto (newest (journal w))) n w.clients (fine script (steps_of history)).around.keeps)
 
 pub says_law : (script : Script) (history : List Event) → EachClient SaysMade (world_after script history)
 says_law script history n =
     let w = world_after script history in
     any_client (client w.clients n) (λ (c : Client). AllByRecursion (SaidUpto (applied (journal w))) (mine n w.up)) (λ c.
-    subst (λ (last : ℕ). AllByRecursion (SaidUpto last) (mine n w.up)) (last_is script history) (every_mine (SaidUpto (newest (journal w))) n w.up (fine script (steps_of history)).1.around.says))
+    subst (λ (last : ℕ). AllByRecursion (SaidUpto last) (mine n w.up)) (last_is script history) (every_mine (SaidUpto (newest (journal w))) n w.up (fine script (steps_of history)).around.says))

@@ -25,7 +25,7 @@ use Rattle.id_laws.specs.Upto.{ContextUpto, TraceUpto, ToldUpto, FlushUpto, Clai
 use Rattle.id_laws.proofs.Lists.{all_append, all_weaker, all_filter}
 
 -- below a greater last id
-joined : (a b c : ℕ) → a ≤ b → b ≤ c → a ≤ c
+pub joined : (a b c : ℕ) → a ≤ b → b ≤ c → a ≤ c
 joined a b c one two = omega (arith, one, two)
 
 pub context_weaker : (low high : ℕ) → low ≤ high → (c : Context) → ContextUpto low c → ContextUpto high c

@@ -1,8 +1,12 @@
 mod Clients
 mod Entering
 mod Finals
+mod Finishing
+mod Fitting
 mod Keeps
 mod Lists
 mod Newest
 mod Posted
+mod Saying
+mod Sizes
 mod Worlds

@@ -1,7 +1,7 @@
 -- The greatest id of the snapshots that entries made: it never falls as entries are added, and no context that they give
 -- names a greater one.
-use Rattle.std.proofs.Common.{◌≡◌, ◌≤◌, ℕ, List, [], ◌∷◌, ◌++◌, take, drop, fold, Bool, true, false, cond, refl, sym, subst, arith}
-use Rattle.std.proofs.lemmas.List.{take-append-drop}
+use Rattle.std.proofs.Common.{◌≡◌, ◌≤◌, ℕ, List, [], ◌∷◌, ◌++◌, take, drop, fold, reverse, Bool, true, false, cond, refl, sym, subst, arith}
+use Rattle.std.proofs.lemmas.List.{take-append-drop, reverse-append}
 use Rattle.std.proofs.lemmas.Bool.Decides.{nat_tests}
 use Rattle.std.specs.Prelude.{max, nat_le}
 use Rattle.std.specs.List.{AllByRecursion}
@@ -13,11 +13,11 @@ use Rattle.plain_types.specs.declared.entry.Entry.{Entry}
 use Rattle.plain_types.specs.declared.entry.What.{What}
 use Rattle.plain_types.specs.declared.entry.What.TheVariants.{Mksnap}
 use Rattle.plain_tree.specs.State.{State, start}
-use Rattle.plain_journal.specs.Coverage.{is_global, is_made, made_by, made_since, made_over, covering, context}
+use Rattle.plain_journal.specs.Coverage.{is_global, is_made, made_by, made_since, made_over, covering, kept, context}
 use Rattle.plain_journal.specs.Entries.{after_entry, applied_by, applied}
 use Rattle.step_table.specs.Messages.{trace_with}
-use Rattle.id_laws.specs.Upto.{TraceUpto}
-use Rattle.id_laws.proofs.Lists.{all_append}
+use Rattle.id_laws.specs.Upto.{ContextUpto, TraceUpto}
+use Rattle.id_laws.proofs.Lists.{all_append, all_filter}
 
 -- the greater one of an id and what an entry makes
 abbrev pub newest_by : ℕ → What → ℕ
@@ -39,7 +39,7 @@ by_least : (n : ℕ) (w : What) → n ≤ newest_by n w
 by_least n (Mksnap id dir name) = omega arith
 by_least n w = omega arith
 
-least_from : (n : ℕ) (entries : List Entry) → n ≤ newest_from n entries
+pub least_from : (n : ℕ) (entries : List Entry) → n ≤ newest_from n entries
 least_from n [] = omega arith
 least_from n (e ∷ entries) = let one = by_least n e.what in let rest = least_from (newest_by n e.what) entries in omega (arith, one, rest)
 
@@ -65,7 +65,7 @@ pub applied_newest : (entries : List Entry) → applied entries ≤ newest entri
 applied_newest entries = last_from 1 1 entries (omega arith)
 
 -- ids that entries made
-abbrev AllIds : ℕ → List SnapId → Type 0
+abbrev pub AllIds : ℕ → List SnapId → Type 0
 AllIds last ids = AllByRecursion (λ (id : SnapId). id.0 ≤ last) ids
 
 made_one : (n last : ℕ) (w : What) (test : Ino → Bool) → newest_by n w ≤ last → AllIds last (made_by w test)
@@ -88,7 +88,7 @@ over_upto n state (e ∷ entries) ino = all_append _ (made_by e.what _) (made_ov
     (made_one n (newest_from (newest_by n e.what) entries) e.what _ (least_from (newest_by n e.what) entries))
     (over_upto (newest_by n e.what) (after_entry state e) entries ino)
 
-covering_upto : (entries : List Entry) (ino : Ino) → AllIds (newest entries) (covering entries ino)
+pub covering_upto : (entries : List Entry) (ino : Ino) → AllIds (newest entries) (covering entries ino)
 covering_upto entries ino = by_test (is_global entries ino)
   where
     by_test : (b : Bool) → AllIds (newest entries) (cond b (made_since start entries ino) (made_over start entries ino))
@@ -101,6 +101,13 @@ greatest_upto n last (id ∷ ids) less all = greatest_upto (max n id.0) last ids
 
 pub context_upto : (entries : List Entry) (ino : Ino) → (context entries ino).seq.0 ≤ newest entries
 context_upto entries ino = greatest_upto 1 (newest entries) (covering entries ino) (newest_least entries) (covering_upto entries ino)
+
+turned : (last : ℕ) (ids : List SnapId) → AllIds last ids → AllIds last (reverse ids)
+turned last [] all = tt
+turned last (id ∷ ids) all = subst (AllIds last) (sym (reverse-append (id ∷ []) ids)) (all_append _ (reverse ids) (id ∷ []) (turned last ids all.1) (all.0, tt))
+
+pub whole_context : (entries : List Entry) (ino : Ino) → ContextUpto (newest entries) (context entries ino)
+whole_context entries ino = (context_upto entries ino, turned (newest entries) (kept entries (covering entries ino)) (all_filter _ _ (covering entries ino) (covering_upto entries ino)))
 
 -- the trace that the table writes
 from_upto : (first : SnapId) (n other last : ℕ) → n ≤ last → other ≤ last → if_from first n other ≤ last

@@ -1,5 +1,5 @@
 -- What the server tells a client names nothing above the newest id of the entries that it was made after.
-use Rattle.std.proofs.Common.{◌≡◌, ◌≤◌, ℕ, ◌+◌, List, [], ◌∷◌, ◌++◌, map, take, length, length-append, Bool, true, false, cond, Option, None, Some, refl, sym, ap, ◌∙◌, subst, arith}
+use Rattle.std.proofs.Common.{◌≡◌, ◌≤◌, ℕ, ◌+◌, List, [], ◌∷◌, ◌++◌, map, take, length, length-append, Bool, true, false, cond, Option, None, Some, refl, sym, ap, ◌∙◌, subst, IfSome, arith}
 use Rattle.std.proofs.lemmas.List.{take-append-le}
 use Rattle.std.proofs.Math.Seq.{take-length}
 use Rattle.std.proofs.lemmas.Bool.Decides.{nat_tests}
@@ -7,31 +7,41 @@ use Rattle.std.specs.Prelude.{nat_le}
 use Rattle.std.specs.List.{AllByRecursion, cons_option}
 use Rattle.snap_ids.specs.declared.id.Ino.{Ino}
 use Rattle.plain_types.specs.declared.entry.Entry.{Entry}
+use Rattle.plain_types.specs.declared.entry.What.{What}
 use Rattle.plain_types.specs.declared.history.Sent.{Sent}
 use Rattle.plain_types.specs.declared.message.Message.{Message}
 use Rattle.plain_types.specs.declared.message.Message.TheVariants as message
 use Rattle.plain_types.specs.declared.message.ToClient.{ToClient}
 use Rattle.plain_types.specs.declared.message.ToClient.TheVariants.{Welcome, Restarted}
+use Rattle.plain_types.specs.declared.message.ToStore.{ToStore}
+use Rattle.plain_types.specs.declared.message.ToStore.TheVariants.{Purge, Delete}
 use Rattle.plain_tree.specs.History.{stamp_of}
 use Rattle.plain_journal.specs.Coverage.{context}
 use Rattle.plain_journal.specs.Entries.{applied}
 use Rattle.plain_journal.specs.Table.{last_flush}
-use Rattle.step_table.specs.ServerState.{Server, Told, Answered, Granted, WantedBack, Changed, Acked, message_of, tell, tell_at, number_of, stamp, trace_of, written_by, welcome}
-use Rattle.step_table.specs.Acts.{Act, act, goes, waits}
+use Rattle.step_table.specs.ServerState.{Asked, Server, Told, Answered, Granted, WantedBack, Changed, Acked, message_of, tell, tell_at, number_of, stamp, trace_of, written_by, up_to, send_store, welcome}
+use Rattle.step_table.specs.Acts.{Act, TellRecall, TellAck, TellRestart, AnswerIt, GrantIt, MakeEffect, Prepare, Buffer, SendPurge, SendDelete, act, answer_hand, grant_hand, effect_hand, buffer_for, written_down, prepare_hand, entry_for, buffer, goes, waits}
 use Rattle.step_table.specs.World.{to_clients, told_to}
 use Rattle.run_laws.specs.Stamps.{told_by, entry_of, IsStampOf}
 use Rattle.run_laws.proofs.Known.{longer}
-use Rattle.run_laws.proofs.Moves.{KeptByMoves, act_keeps}
+use Rattle.run_laws.proofs.Acts.{notices_keep}
 use Rattle.id_laws.specs.Upto.{TraceUpto, ToldUpto, Every}
-use Rattle.id_laws.proofs.Newest.{newest, newest_least, newest_take, applied_newest, context_upto, trace_upto}
+use Rattle.id_laws.proofs.Entering.{EntryFits}
+use Rattle.id_laws.proofs.Newest.{newest, newest_least, newest_take, applied_newest, context_upto, whole_context, trace_upto}
+use Rattle.id_laws.proofs.Saying.{SaysUpto}
+use Rattle.id_laws.proofs.Sizes.{largest, settled_largest, WholeUpto, NumbersUpto}
 
--- a message whose stamp is of some entries, and that names nothing above their newest id then
+-- what is told after some entries: it names nothing above their newest id, and no size above the largest that they settled
+abbrev pub ToldAfter : List Entry → ToClient → Type 0
+ToldAfter made told = ToldUpto (newest made) told × NumbersUpto (newest made) (largest made) told
+
+-- a message whose stamp is of some entries, and that was told after those that the stamp counts
 abbrev pub TellsUpto : List Entry → ToClient → Type 0
-TellsUpto entries told = IsStampOf entries told × ToldUpto (newest (take (entry_of told) entries)) told
+TellsUpto entries told = IsStampOf entries told × ToldAfter (take (entry_of told) entries) told
 
 -- with more entries
 pub tells_more : (entries more : List Entry) (told : ToClient) → TellsUpto entries told → TellsUpto (entries ++ more) told
-tells_more entries more told is = ((longer_now, is.0.1 ∙ ap applied (sym same)), subst (λ (l : List Entry). ToldUpto (newest l) told) (sym same) is.1)
+tells_more entries more told is = ((longer_now, is.0.1 ∙ ap applied (sym same)), subst (λ (l : List Entry). ToldAfter l told) (sym same) is.1)
   where
     fits : entry_of told ≤ length entries
     fits = is.0.0
@@ -50,8 +60,8 @@ stamp_upto entries told is = low (stamp_of told).snap.0 (applied (take (entry_of
     low a b c d same one two = omega (arith, same, one, two)
 
 -- what is made now
-now_upto : (s : Server) (told : ToClient) → stamp_of told ≡ stamp s → ToldUpto (newest s.entries) told → TellsUpto s.entries told
-now_upto s told is upto = ((omega (arith, place), id ∙ ap applied (sym whole)), subst (λ (l : List Entry). ToldUpto (newest l) told) (sym whole) upto)
+now_upto : (s : Server) (told : ToClient) → stamp_of told ≡ stamp s → ToldAfter s.entries told → TellsUpto s.entries told
+now_upto s told is upto = ((omega (arith, place), id ∙ ap applied (sym whole)), subst (λ (l : List Entry). ToldAfter l told) (sym whole) upto)
   where
     place : entry_of told ≡ length s.entries
     place = ap (λ st. st.entry) is
@@ -69,15 +79,28 @@ traces : (s : Server) (inos : List Ino) → AllByRecursion (TraceUpto (newest s.
 traces s [] = tt
 traces s (ino ∷ inos) = (one_trace s ino, traces s inos)
 
-made_upto : (s : Server) (conn : ℕ) (told : Told) → TellsUpto s.entries (message_of s conn told)
-made_upto s conn (Answered tid said) = now_upto s (message_of s conn (Answered tid said)) refl tt
-made_upto s conn (Granted tid ino mode) = now_upto s (message_of s conn (Granted tid ino mode)) refl (one_trace s ino)
-made_upto s conn (WantedBack ino) = now_upto s (message_of s conn (WantedBack ino)) refl tt
-made_upto s conn (Changed inos) = now_upto s (message_of s conn (Changed inos)) refl (traces s inos)
-made_upto s conn (Acked number) = now_upto s (message_of s conn (Acked number)) refl tt
+-- the same trace with all that it says
+one_whole : (s : Server) (ino : Ino) → WholeUpto (newest s.entries) (trace_of s ino)
+one_whole s ino = let known = whole_context s.entries ino in (omega arith, ((known.0, omega arith, tt, known.1), tt))
+
+wholes : (s : Server) (inos : List Ino) → AllByRecursion (WholeUpto (newest s.entries)) (map (trace_of s) inos)
+wholes s [] = tt
+wholes s (ino ∷ inos) = (one_whole s ino, wholes s inos)
+
+-- an answer that may be told
+abbrev MayTell : List Entry → Told → Type 0
+MayTell entries (Answered tid said) = SaysUpto entries said
+MayTell entries told = Unit {0}
+
+made_upto : (s : Server) (conn : ℕ) (told : Told) → MayTell s.entries told → TellsUpto s.entries (message_of s conn told)
+made_upto s conn (Answered tid said) may = now_upto s (message_of s conn (Answered tid said)) refl (tt, may)
+made_upto s conn (Granted tid ino mode) may = now_upto s (message_of s conn (Granted tid ino mode)) refl (one_trace s ino, (settled_largest s.entries ino _, one_whole s ino))
+made_upto s conn (WantedBack ino) may = now_upto s (message_of s conn (WantedBack ino)) refl (tt, tt)
+made_upto s conn (Changed inos) may = now_upto s (message_of s conn (Changed inos)) refl (traces s inos, wholes s inos)
+made_upto s conn (Acked number) may = now_upto s (message_of s conn (Acked number)) refl (tt, tt)
 
 -- the mail
-abbrev SentUpto : List Entry → Option ToClient → Type 0
+abbrev pub SentUpto : List Entry → Option ToClient → Type 0
 SentUpto entries None = Unit {0}
 SentUpto entries (Some told) = TellsUpto entries told
 
@@ -116,28 +139,56 @@ gone_upto entries d fits (m ∷ mail) all = by_test (nat_le m.0 d) refl (gone_up
     by_test false test rest = tt
 
 -- each act leaves it so
-told_posted : (s : Server) (x : ℕ) (told : Told) → MailUpto s.entries s.mail → (let t = tell s x told in MailUpto t.entries t.mail)
-told_posted s x told all = by_number (number_of s.current x)
-  where
-    by_number : (o : Option ℕ) → (let t = tell_at s x told o in MailUpto t.entries t.mail)
-    by_number None = all
-    by_number (Some conn) = mail_end s.entries s.mail (record { to = x; message = message.ToClient (message_of s conn told) }) (made_upto s conn told) all
-
-moves : KeptByMoves (λ entries durable mail current. MailUpto entries mail)
-moves = record {
-  tells = λ s x told all. told_posted s x told all;
-  restarts = λ s x all. mail_end s.entries s.mail (record { to = x; message = message.ToClient (Restarted (stamp s)) }) (now_upto s (Restarted (stamp s)) refl tt) all;
-  stores = λ s order all. mail_end s.entries s.mail (record { to = s.clients + 1; message = message.ToStore order }) tt all;
-  enters = λ s e all. mail_more s.entries e s.mail all;
-}
-
 abbrev pub Posted : Server → Type 0
 Posted s = MailUpto s.entries s.mail
 
-pub one_posted : (s : Server) (a : Act) → Posted s → Posted (act s a)
-one_posted s a all = act_keeps moves s a all
+told_posted : (s : Server) (x : ℕ) (told : Told) → MayTell s.entries told → Posted s → Posted (tell s x told)
+told_posted s x told may all = by_number (number_of s.current x)
+  where
+    by_number : (o : Option ℕ) → Posted (tell_at s x told o)
+    by_number None = all
+    by_number (Some conn) = mail_end s.entries s.mail (record { to = x; message = message.ToClient (message_of s conn told) }) (made_upto s conn told may) all
+
+buffer_posted : (s : Server) (e : Entry) → Posted s → Posted (buffer s e)
+buffer_posted s e all = notices_keep Posted (λ t x inos so. told_posted t x (Changed inos) tt so) s.entries (up_to s.clients) (record s { entries = s.entries ++ e ∷ [] }) (mail_more s.entries e s.mail all)
+
+ordered_posted : (s : Server) (order : ToStore) → Posted s → Posted (send_store s order)
+ordered_posted s order all = mail_end s.entries s.mail (record { to = s.clients + 1; message = message.ToStore order }) tt all
+
+pub one_posted : (s : Server) (a : Act) → EntryFits s a → Posted s → Posted (act s a)
+one_posted s (TellRecall x ino) fit all = told_posted s x (WantedBack ino) tt all
+one_posted s (TellAck x number) fit all = told_posted s x (Acked number) tt all
+one_posted s (TellRestart x) fit all = mail_end s.entries s.mail (record { to = x; message = message.ToClient (Restarted (stamp s)) }) (now_upto s (Restarted (stamp s)) refl (tt, tt)) all
+one_posted s (AnswerIt said) fit all = by_hand s.hand fit
+  where
+    by_hand : (o : Option Asked) → IfSome o (λ a. SaysUpto s.entries said) → Posted (answer_hand s said o)
+    by_hand None may = all
+    by_hand (Some a) may = told_posted (record s { hand = None }) a.client (Answered a.tid said) may all
+one_posted s (GrantIt ino mode) fit all = by_hand s.hand
+  where
+    by_hand : (o : Option Asked) → Posted (grant_hand s ino mode o)
+    by_hand None = all
+    by_hand (Some a) = told_posted (record s { hand = None }) a.client (Granted a.tid ino mode) tt all
+one_posted s (MakeEffect made) fit all = by_hand s.hand
+  where
+    by_said : (a : Asked) (o : Option What) → Posted (buffer_for s a o)
+    by_said a None = all
+    by_said a (Some said) = buffer_posted s (entry_for a said) all
+
+    by_hand : (o : Option Asked) → Posted (effect_hand s made o)
+    by_hand None = all
+    by_hand (Some a) = by_said a (written_down made)
+one_posted s (Prepare said) fit all = by_hand s.hand
+  where
+    by_hand : (o : Option Asked) → Posted (prepare_hand s said o)
+    by_hand None = all
+    by_hand (Some a) = buffer_posted (record s { operation = Some a; hand = None }) (entry_for a said) all
+one_posted s (Buffer e) fit all = buffer_posted s e all
+one_posted s (SendPurge id) fit all = ordered_posted (record s { purging = s.purging ++ id ∷ [] }) (Purge id) all
+one_posted s (SendDelete ino) fit all = ordered_posted (record s { deleting = s.deleting ++ ino ∷ [] }) (Delete ino (context s.entries ino)) all
+one_posted s a fit all = all
 
 pub welcome_posted : (s : Server) (x conn : ℕ) → Posted s → Posted (welcome s x conn)
 welcome_posted s x conn all =
     let hello = Welcome conn (stamp s) (last_flush s.entries x) (map (trace_of s) (written_by s x)) in
-    mail_end s.entries s.mail (record { to = x; message = message.ToClient hello }) (now_upto s hello refl (traces s (written_by s x))) all
+    mail_end s.entries s.mail (record { to = x; message = message.ToClient hello }) (now_upto s hello refl (traces s (written_by s x), wholes s (written_by s x))) all
