@@ -58,7 +58,7 @@ next_grows (x ∷ xs) ys = by_test (prepares x.what) (next_grows xs ys)
 applied_more : (entries : List Entry) (e : Entry) → applied (entries ++ e ∷ []) ≡ applied_by (applied entries) e.what
 applied_more entries e = fold-append _ 1 entries (e ∷ [])
 
-applied_next : (script : Script) (history : List Event) (done later : List Entry) → (world_after script history).server.entries ≡ done ++ later → applied done < next_snap done
+pub applied_next : (script : Script) (history : List Event) (done later : List Entry) → (world_after script history).server.entries ≡ done ++ later → applied done < next_snap done
 applied_next script history done later entries = along (world_after script history).server.entries (λ (l : List Entry). applied l < next_snap l) one [] done later (omega arith) entries
   where
     by_what : (w : What) (last next : ℕ) → last < next → ((id : SnapId) (dir : Ino) (name : List ℕ) → w ≡ Mksnap id dir name → id.0 < next) → applied_by last w < next

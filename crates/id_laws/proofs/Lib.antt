@@ -9,4 +9,5 @@ mod Newest
 mod Posted
 mod Saying
 mod Sizes
+mod Speaking
 mod Worlds

@@ -118,7 +118,7 @@ below n last top is less = grind (arith, nat_tests, is, less)
 pub both : (a b : Bool) → a ≡ true → b ≡ true → (a && b) ≡ true
 both a b one two = rw (one, two) refl
 
-all_true : {A : Type 0} (P : A → Type 0) (test : A → Bool) → ((x : A) → P x → test x ≡ true) → (xs : List A) → AllByRecursion P xs → list_all test xs ≡ true
+pub all_true : {A : Type 0} (P : A → Type 0) (test : A → Bool) → ((x : A) → P x → test x ≡ true) → (xs : List A) → AllByRecursion P xs → list_all test xs ≡ true
 all_true P test go [] all = refl
 all_true P test go (x ∷ xs) all = both (test x) (list_all test xs) (go x all.0) (all_true P test go xs all.1)
 

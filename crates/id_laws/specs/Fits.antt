@@ -1,8 +1,11 @@
 -- That no message is dropped for its numbers.
 use Rattle.std.specs.Prelude.{◌≡◌, true, List, ℕ, IfSome}
+use Rattle.std.specs.List.{AllByRecursion}
 use Rattle.plain_types.specs.declared.history.Sent.{Sent}
 use Rattle.plain_types.specs.declared.message.ToClient.{ToClient}
-use Rattle.step_table.specs.Messages.{to_client_fits}
+use Rattle.plain_types.specs.declared.message.ToServer.{ToServer}
+use Rattle.step_table.specs.Messages.{to_client_fits, to_server_fits}
+use Rattle.run_laws.specs.Links.{View}
 use Rattle.run_laws.specs.Stamps.{told_by}
 use Rattle.id_laws.specs.Upto.{Every}
 
@@ -16,3 +19,7 @@ AllCanBeTaken down = Every CanBeTaken down
 -- those among the server's mail, that wait until the entries are durable
 abbrev pub MailCanBeTaken : List (ℕ × Sent) → Type 0
 MailCanBeTaken mail = Every (λ (sent : Sent). IfSome (told_by sent.message) CanBeTaken) mail
+
+-- The messages that are on their way from a client can be taken.
+abbrev pub SaysWhatCanBeTaken : View
+SaysWhatCanBeTaken n c up down s = AllByRecursion (λ (said : ToServer). to_server_fits said ≡ true) up

@@ -27,7 +27,7 @@ pub mod Growing
 mod Hearing
 mod Held
 mod Holders
-mod Holds
+pub mod Holds
 mod Kept
 pub mod Knowing
 pub mod Known
@@ -35,7 +35,7 @@ mod Lasting
 mod Leaving
 mod Lending
 mod Link
-mod Linked
+pub mod Linked
 mod Mail
 mod Makes
 pub mod Moves
