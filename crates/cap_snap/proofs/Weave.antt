@@ -1,5 +1,5 @@
 -- Pieces with marks between them.
-use Rattle.std.proofs.Common.{◌≡◌, ℕ, zero, suc, ◌+◌, ◌-◌, ◌<◌, ◌≤◌, Bool, true, false, ◌&&◌, IsTrue, List, [], ◌∷◌, ◌++◌, length, map, take, drop, get_or, refl, sym, ap, subst, ◌∙◌, arith}
+use Rattle.std.proofs.Common.{◌≡◌, ℕ, zero, suc, ◌+◌, ◌-◌, ◌<◌, ◌≤◌, Bool, true, false, ◌&&◌, IsTrue, List, [], ◌∷◌, ◌++◌, length, map, take, drop, get_or, Option, None, Some, slice_get, refl, sym, ap, subst, ◌∙◌, arith}
 use Rattle.std.proofs.lemmas.List.{append_assoc, take-append-drop, take-append-le, drop-append-le, length-drop, map-append, take_all, drop_all}
 use Rattle.std.proofs.lemmas.List.Elements.{filter_map-append}
 use Rattle.std.specs.List.{filter_map}
@@ -8,10 +8,10 @@ use Rattle.snap_ids.specs.declared.values.Mode.{Mode}
 use Rattle.snap_ids.specs.declared.values.Mode.TheVariants.{Read, Write}
 use Rattle.held_files.specs.declared.piece.Piece.{Piece}
 use Rattle.held_files.specs.Buffer as buffer
-use Rattle.held_files.specs.Files.{Item, OfPiece, OfMark, HeldFile, piece_of, buffer_of, with_piece, with_mark, first_sent, item_sent, is_write, is_empty}
+use Rattle.held_files.specs.Files.{Mark, Item, OfPiece, OfMark, HeldFile, piece_of, buffer_of, with_piece, with_mark, first_sent, item_sent, is_write, is_empty}
 use Rattle.cap_snap.specs.declared.held.Queued.{Queued}
 use Rattle.cap_snap.specs.declared.held.First.TheVariants as first
-use Rattle.cap_snap.specs.Woven.{mark_of, woven, total, first_of, is_first_mark, sooner, is_kept}
+use Rattle.cap_snap.specs.Woven.{mark_of, woven, total, first_of, is_first_mark, leading_piece, sooner, is_kept}
 
 -- the file as contracts see it
 abbrev pub shown : Mode → SnapId → Bool → buffer.Buffer → List Queued → HeldFile
@@ -189,3 +189,17 @@ fewer false marks now is h = h
 pub kept_fewer : (mode : Mode) (buf : buffer.Buffer) (marks now : List Queued) → now ≡ drop 1 marks → IsTrue (is_kept mode buf marks) → IsTrue (is_kept mode buf now)
 kept_fewer Write buf marks now is h = refl
 kept_fewer Read buf marks now is h = fewer (is_empty buf.unacked && is_empty buf.unsent) marks now is h
+
+leads_before : (n : ℕ) (pieces : List Piece) (mark : Mark) (items : List Item)
+    → first_of (map OfPiece (take n pieces) ++ OfMark mark ∷ items) ≡ first.Piece
+    → slice_get pieces 0 ≡ leading_piece (map OfPiece (take n pieces) ++ OfMark mark ∷ items)
+leads_before zero pieces mark items is = cc
+leads_before (suc n) [] mark items is = cc
+leads_before (suc n) (piece ∷ pieces) mark items is = refl
+
+-- the piece that waits first is the oldest unsent one, where it stands before each mark
+pub piece_leads : (marks : List Queued) (pieces : List Piece) → first_of (woven marks pieces) ≡ first.Piece
+    → slice_get pieces 0 ≡ leading_piece (woven marks pieces)
+piece_leads [] [] is = cc
+piece_leads [] (piece ∷ pieces) is = refl
+piece_leads (mark ∷ marks) pieces is = leads_before mark.after pieces (mark_of mark) (woven marks (drop mark.after pieces)) is

@@ -1,6 +1,6 @@
 -- The code's form of what waits for one file: its unsent pieces, and between them marks, each with the number of pieces
 -- that stand between the mark before it and itself.
-use Rattle.std.specs.Prelude.{ℕ, ◌+◌, ◌-◌, Bool, true, false, not, ◌||◌, ◌&&◌, List, [], ◌∷◌, ◌++◌, map, take, drop}
+use Rattle.std.specs.Prelude.{ℕ, ◌+◌, ◌-◌, Bool, true, false, not, ◌||◌, ◌&&◌, List, [], ◌∷◌, ◌++◌, map, take, drop, Option, None, Some}
 use Rattle.snap_ids.specs.declared.values.Mode.{Mode}
 use Rattle.held_files.specs.declared.piece.Piece.{Piece}
 use Rattle.held_files.specs.Buffer.{Buffer}
@@ -27,6 +27,16 @@ abbrev pub first_of : List Item → First
 first_of [] = first.Nothing
 first_of (OfPiece piece ∷ items) = first.Piece
 first_of (OfMark mark ∷ items) = first.Mark mark.follows mark.upto mark.size
+
+-- the piece that stands first
+abbrev pub leading_piece : List Item → Option Piece
+leading_piece [] = None
+leading_piece (OfPiece piece ∷ items) = Some piece
+leading_piece (OfMark mark ∷ items) = None
+
+abbrev pub leading_in : Option HeldFile → Option Piece
+leading_in None = None
+leading_in (Some file) = leading_piece file.unsent
 
 abbrev pub is_first_mark : First → Bool
 is_first_mark (first.Mark follows upto size) = true

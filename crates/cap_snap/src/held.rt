@@ -1,15 +1,16 @@
 // One held file.
 ghost use Rattle.std.specs.Prelude.{◌≡◌, ◌↔◌, ◌<◌, ◌≤◌, ◌+◌, true, not, min, length, IsTrue, OnOk, OnErr, IsErrOf};
 ghost use Rattle.std.specs.Bool.{OnFalse};
+ghost use Rattle.std.specs.Option.{option_copied};
 ghost use Rattle.snap_ids.specs.declared.values.Mode.TheVariants.{Read};
 ghost use Rattle.held_files.specs.declared.piece.Piece.TheVariants.{Put, Cut};
 ghost use Rattle.file_buffer.specs.declared.error.BufError.TheVariants.{TooLarge};
 ghost use Rattle.held_files.specs.Files.{held_newly, held_again, with_piece, with_mark, recalled, stored, settled_to, item_sent, buffer_of, is_write, is_empty, claim_of};
 ghost use Rattle.held_files.specs.Due.{due, given_back};
-ghost use Rattle.cap_snap.specs.Woven.{first_of, is_first_mark, waits, sooner};
+ghost use Rattle.cap_snap.specs.Woven.{first_of, is_first_mark, leading_piece, waits, sooner};
 ghost use Rattle.cap_snap.specs.declared.held.First.TheVariants as first;
 
-use file_buffer::{BufError, FileBuf};
+use file_buffer::{BufError, FileBuf, Piece};
 use held_files::Due;
 use plain_types::Claim;
 use snap_ids::{Bytes, Ino, Mode, NoMemory, SnapContext, SnapId};
@@ -229,6 +230,24 @@ impl Held {
             Some(_) => First::Piece,
             None if self.buf.unsent_count() == 0 => First::Nothing,
             None => First::Piece,
+        }
+    }
+
+    /// Whether it is held for writing.
+    pub(crate) fn is_writer(&self) -> bool
+        ensures { result ≡ is_write self.now.mode }
+    {
+        self.mode == Mode::Write
+    }
+
+    /// The piece that waits first, where no mark stands before it.
+    pub(crate) fn first_piece(&self) -> Option<&Piece>
+        ensures { option_copied result ≡ leading_piece self.now.unsent }
+    {
+        match self.first() {
+            First::Piece => self.buf.next_piece(),
+            First::Mark { .. } => None,
+            First::Nothing => None,
         }
     }
 

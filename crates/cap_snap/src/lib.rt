@@ -6,7 +6,7 @@ mod held;
 mod places;
 mod snaps;
 
-pub use file_buffer::{BufError, FileBuf};
+pub use file_buffer::{BufError, FileBuf, Piece};
 pub use held_files::Due;
 pub use snaps::CapSnaps;
 

@@ -9,10 +9,11 @@ ghost use Rattle.file_buffer.specs.declared.error.BufError.TheVariants.{TooLarge
 ghost use Rattle.held_files.specs.Files.{file_of, with_file, without, hold, with_piece, with_mark, recalled, stored, settled_to, item_sent, claims, buffer_of, is_held, is_writer, is_idle, has_unacked};
 ghost use Rattle.held_files.specs.Due.{first_due, sent};
 ghost use Rattle.cap_snap.specs.Places.{due_at, claims_at};
+ghost use Rattle.cap_snap.specs.Woven.{leading_in};
 
 use crate::held::Held;
 use crate::places::{move_up, note};
-use file_buffer::{BufError, FileBuf};
+use file_buffer::{BufError, FileBuf, Piece};
 use held_files::Due;
 use indexmap::IndexMap;
 use plain_types::{Claim, Claims};
@@ -100,6 +101,26 @@ impl CapSnaps {
     {
         let file = self.files.get(&ino)?;
         Some(file.buffer())
+    }
+
+    /// Whether a file is held for writing.
+    pub fn is_writer(&self, ino: Ino) -> bool
+        ensures { result ≡ is_writer ino self.now }
+    {
+        match self.files.get(&ino) {
+            Some(file) => file.is_writer(),
+            None => false,
+        }
+    }
+
+    /// The piece of a file that waits to be sent first, where no mark stands before it.
+    pub fn first_piece(&self, ino: Ino) -> Option<&Piece>
+        ensures { option_copied result ≡ leading_in (file_of ino self.now) }
+    {
+        match self.files.get(&ino) {
+            Some(file) => file.first_piece(),
+            None => None,
+        }
     }
 
     /// Keeps a write to a file back: bytes from an offset on, with the context that the file has. It is refused exactly
