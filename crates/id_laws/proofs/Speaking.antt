@@ -118,7 +118,7 @@ says_can script history few n =
     let less : applied (journal w) < NOSNAP.0 = omega (arith, next, few) in
     three (client w.clients n) _ _ _ (λ (c : Client). AllByRecursion (λ (said : ToServer). to_server_fits said ≡ true) (mine n w.up))
     (λ c link speaks keeps. up_can (journal w) (offer c) link.base (mine n w.up)
-        (all_true (ClaimUpto (applied (journal w))) claim_fits (λ claim is. below claim.settled.0 (applied (journal w)) NOSNAP.0 is less) (claims c.files) (claims_upto (applied (journal w)) c.files keeps.files))
-        (all_true Fits flush_fits (λ f is. is) c.unacked speaks.1)
-        speaks.0.1.up link.up)
+    (all_true (ClaimUpto (applied (journal w))) claim_fits (λ claim is. below claim.settled.0 (applied (journal w)) NOSNAP.0 is less) (claims c.files) (claims_upto (applied (journal w)) c.files keeps.files))
+    (all_true Fits flush_fits (λ f is. is) c.unacked speaks.1)
+    speaks.0.1.up link.up)
     (links_law script history n) (speaks script (steps_of history) n) (keeps_law script history n)
