@@ -11,4 +11,8 @@ pub use run::run_tool;
 pub use verdict::{Report, run_bytes};
 
 #[cfg(test)]
+mod end_tests;
+#[cfg(test)]
+mod reply_tests;
+#[cfg(test)]
 mod tests;
