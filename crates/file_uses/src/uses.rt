@@ -160,4 +160,11 @@ impl FileUses {
     {
         first_unsent(&self.dead, sent)
     }
+
+    /// The dead files, rising. It takes no memory.
+    pub fn dead_files(&self) -> &[Ino]
+        ensures dead { result.now ≡ files.dead_of self.now }
+    {
+        &self.dead
+    }
 }

@@ -103,6 +103,13 @@ impl MetaState {
         self.uses.dead(sent)
     }
 
+    /// The files without name and handle that the store hasn't dropped, rising. It takes no memory.
+    pub fn dead_files(&self) -> &[Ino]
+        ensures { (entries : List Entry) → StandsFor self.now entries → result.now ≡ dead entries }
+    {
+        self.uses.dead_files()
+    }
+
     /// The number of the last barrier to which all clients came, at first 0. It takes no memory.
     pub fn barrier(&self) -> u64
         ensures { (entries : List Entry) → StandsFor self.now entries → result ≡ barrier entries }
