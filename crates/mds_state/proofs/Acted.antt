@@ -31,6 +31,7 @@ held_so p taken s t holders stands tenures = record {
   sessions = stands.sessions;
   tenures = tenures;
   mail = stands.mail;
+  traces = stands.traces;
   hand = stands.hand;
   held = stands.held;
   deferred = stands.deferred;

@@ -1,7 +1,7 @@
 -- One more entry that is written down.
-use Rattle.std.proofs.Common.{◌≡◌, ℕ, ◌+◌, List, [], ◌∷◌, ◌++◌, length, filter, Bool, true, false, cond, Option, None, refl, sym, ap, subst, ◌∙◌, arith, length-append}
+use Rattle.std.proofs.Common.{◌≡◌, ℕ, ◌+◌, List, [], ◌∷◌, ◌++◌, length, filter, Bool, true, false, cond, Option, None, refl, sym, ap, subst, ◌∙◌, arith, append_assoc, length-append}
 use Rattle.std.specs.List.{cons_option}
-use Rattle.std.proofs.lemmas.List.{drop-append-le}
+use Rattle.std.proofs.lemmas.List.{append-nil, drop-append-le}
 use Rattle.std.proofs.lemmas.List.Elements.{filter-append, filter_map-append}
 use Rattle.snap_ids.specs.declared.id.SnapId.{SnapId}
 use Rattle.plain_types.specs.declared.entry.Entry.{Entry}
@@ -15,7 +15,7 @@ use Rattle.snap_table.specs.Table.{Table}
 use Rattle.server_sessions.specs.Calls.{IsOf, AllOf}
 use Rattle.step_table.specs.Background.{removed}
 use Rattle.mds_state.specs.Parts.{WrittenParts}
-use Rattle.mds_state.specs.Stands.{WrittenStands, MayFollow}
+use Rattle.mds_state.specs.Stands.{AllFollow, MayFollow, WrittenStands}
 use Rattle.mds_state.specs.Written.{next_by, removed_in, Entered}
 
 next_one : (w : What) (n : ℕ) → next_by w n ≡ cond (prepares w) (n + 1) n
@@ -48,6 +48,11 @@ all_more : (clients : ℕ) (entries : List Entry) (e : Entry) → AllOf clients 
 all_more clients [] e all is = (is, tt)
 all_more clients (x ∷ entries) e all is = (all.0, all_more clients entries e all.1 is)
 
+follow_end : (clients : ℕ) (done entries : List Entry) (e : Entry) → AllFollow clients done entries → MayFollow clients (done ++ entries) e → AllFollow clients done (entries ++ e ∷ [])
+follow_end clients done [] e all may = (subst (λ (l : List Entry). MayFollow clients l e) (append-nil done) may, tt)
+follow_end clients done (x ∷ entries) e all may =
+    (all.0, follow_end clients (done ++ x ∷ []) entries e all.1 (subst (λ (l : List Entry). MayFollow clients l e) (sym (append_assoc done (x ∷ []) entries)) may))
+
 pub enters : (e : Entry) (old new : WrittenParts) (clients : ℕ) (entries : List Entry) (done : ℕ) → Entered e old new → WrittenStands old clients entries done → MayFollow clients entries e → WrittenStands new clients (entries ++ e ∷ []) done
 enters e old new clients entries done entered stands may = record {
   tree = tree;
@@ -59,6 +64,7 @@ enters e old new clients entries done entered stands may = record {
   count = omega (arith, ap length entered.buffered, length-append old.buffered (e ∷ []), length-append entries (e ∷ []), stands.count);
   removing = entered.removing ∙ ap (λ (ids : List SnapId). ids ++ removed_in e.what) stands.removing ∙ sym (removed_more old.buffered e) ∙ ap removed (sym entered.buffered);
   of_clients = all_more clients entries e stands.of_clients may.whose;
+  all = follow_end clients [] entries e stands.all may;
 }
   where
     tree : meta.StandsFor new.tree (entries ++ e ∷ [])

@@ -1,4 +1,5 @@
 pub mod Files
+pub mod Traces
 pub mod Told
 pub mod Known
 pub mod Enters
@@ -12,3 +13,9 @@ pub mod Quiet
 pub mod Handed
 pub mod Seats
 pub mod Places
+pub mod Owed
+pub mod Rising
+pub mod Writers
+pub mod Changed
+pub mod Purges
+pub mod Dues

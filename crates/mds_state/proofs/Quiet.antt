@@ -65,6 +65,7 @@ enters_in p taken s e w sessions stands written links whose = record {
       let t = stands.tenures in
       record { table = t.table; stands = t.stands; alone = t.alone; theirs = t.theirs; made = files_more s.entries e s.holders t.made };
   mail = stands.mail;
+  traces = stands.traces;
   hand = stands.hand;
   held = stands.held;
   deferred = stands.deferred;

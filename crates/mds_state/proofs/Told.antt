@@ -1,6 +1,9 @@
 -- A message that is made, and a client that is told.
 use Rattle.std.proofs.Common.{◌≡◌, ℕ, List, [], ◌∷◌, ◌++◌, Option, None, Some, length, refl, sym, ap, subst, ◌∙◌}
+use Rattle.std.specs.Prelude.{true, ◌&&◌}
+use Rattle.std.specs.List.{list_all}
 use Rattle.std.proofs.lemmas.List.{map-append}
+use Rattle.std.proofs.lemmas.List.Folds.{list_all-append}
 use Rattle.plain_types.specs.declared.answer.Answer.{Answer}
 use Rattle.plain_types.specs.declared.history.Sent.{Sent}
 use Rattle.snap_ids.specs.declared.id.Ino.{Ino}
@@ -11,16 +14,20 @@ use Rattle.step_table.specs.Messages.{plain_sent}
 use Rattle.step_table.specs.ServerState.{Asked, Server, Told, Answered, Granted, number_of, send, send_client, message_of, tell_at, tell}
 use Rattle.mds_state.specs.Noted.{delete_noted, purge_noted}
 use Rattle.mds_state.specs.Parts.{Parts}
-use Rattle.mds_state.specs.Stands.{plain_mail, StandsFor}
+use Rattle.mds_state.specs.Stands.{letter_traces_fit, plain_mail, sent_traces_fit, StandsFor}
+
+all_end : (mail : List (ℕ × Sent)) (letter : ℕ × Sent) → list_all letter_traces_fit mail ≡ true → letter_traces_fit letter ≡ true → list_all letter_traces_fit (mail ++ letter ∷ []) ≡ true
+all_end mail letter all fits = list_all-append letter_traces_fit mail (letter ∷ []) ∙ (λ i. all i && (fits i && true))
 
 -- a message is made
-pub mailed : (p : Parts) (taken : Option Asked) (s : Server) (number : ℕ) (own letter : Sent) → StandsFor p taken s → number ≡ length s.entries → plain_sent own ≡ letter → StandsFor (record p { mail = p.mail ++ (number, own) ∷ [] }) taken (send s letter)
-mailed p taken s number own letter stands many plain = record {
+pub mailed : (p : Parts) (taken : Option Asked) (s : Server) (number : ℕ) (own letter : Sent) → StandsFor p taken s → number ≡ length s.entries → plain_sent own ≡ letter → sent_traces_fit own ≡ true → StandsFor (record p { mail = p.mail ++ (number, own) ∷ [] }) taken (send s letter)
+mailed p taken s number own letter stands many plain fits = record {
   clients = stands.clients;
   written = stands.written;
   sessions = stands.sessions;
   tenures = stands.tenures;
   mail = map-append plain_mail p.mail ((number, own) ∷ []) ∙ (λ i. stands.mail i ++ (many i, plain i) ∷ []);
+  traces = all_end p.mail (number, own) stands.traces fits;
   hand = stands.hand;
   held = stands.held;
   deferred = stands.deferred;
@@ -37,6 +44,7 @@ freed p taken s stands = record {
   sessions = stands.sessions;
   tenures = stands.tenures;
   mail = stands.mail;
+  traces = stands.traces;
   hand = refl;
   held = stands.held;
   deferred = stands.deferred;
@@ -70,6 +78,7 @@ purge_sent p taken s id stands = record {
   sessions = stands.sessions;
   tenures = stands.tenures;
   mail = stands.mail;
+  traces = stands.traces;
   hand = stands.hand;
   held = stands.held;
   deferred = stands.deferred;
@@ -85,6 +94,7 @@ delete_sent p taken s ino stands = record {
   sessions = stands.sessions;
   tenures = stands.tenures;
   mail = stands.mail;
+  traces = stands.traces;
   hand = stands.hand;
   held = stands.held;
   deferred = stands.deferred;

@@ -20,6 +20,7 @@ moved p taken now s held deferred operation s_held s_deferred s_operation helds 
   sessions = stands.sessions;
   tenures = stands.tenures;
   mail = stands.mail;
+  traces = stands.traces;
   hand = refl;
   held = helds;
   deferred = deferreds;
@@ -77,6 +78,7 @@ module _ (p : Parts) (taken : Option Asked) (s : Server) (stands : StandsFor p t
         record { each = links ∙ now.each; numbered = now.numbered };
     tenures = stands.tenures;
     mail = stands.mail;
+    traces = stands.traces;
     hand = stands.hand;
     held = helds ∙ ap (λ (l : List Asked). filter (λ a. not (of_client client a)) l) stands.held;
     deferred = deferreds ∙ ap (λ (l : List Asked). filter (λ a. not (of_client client a)) l) stands.deferred;
@@ -91,4 +93,4 @@ prepared p taken a s stands = moved p taken None s p.held p.deferred (Some a) s.
 
 -- and what may be buffered still may
 pub may_still : (p : Parts) (a : Asked) (e : Entry) (q : Parts) (is : MayBuffer q e) → StandsFor p is.taken is.state → MayBuffer (record p { operation = Some a }) e
-may_still p a e q is stands = record { taken = None; state = record is.state { operation = Some a; hand = None }; stands = prepared p is.taken a is.state stands; may = is.may; flush = is.flush }
+may_still p a e q is stands = record { taken = None; state = record is.state { operation = Some a; hand = None }; stands = prepared p is.taken a is.state stands; may = is.may }

@@ -5,3 +5,9 @@ pub mod Tenures
 pub mod Written
 pub mod Looks
 pub mod Noted
+pub mod Waits
+pub mod Writers
+pub mod Changed
+pub mod Acted
+pub mod Fits
+pub mod Due

@@ -13,10 +13,20 @@ ghost use Rattle.mds_state.specs.Stands.{MayBuffer, MayFollow, StandsFor, entere
 use crate::asked::Asked;
 use crate::change::note;
 use crate::state::MdsState;
-use plain_types::Entry;
+use plain_types::{Entry, What};
 use server_sessions::calls_are_fine;
 use session_link::Session;
 use snap_ids::NoMemory;
+
+// Whether an entry may change the context of a file.
+fn changes_contexts(what: &What) -> bool
+    ensures { result ≡ changes_contexts what.now }
+{
+    match what {
+        What::Mksnap { .. } | What::Link { .. } | What::Purgedone { .. } => true,
+        _ => false,
+    }
+}
 
 // The sessions after an entry.
 fn note_in(sessions: &mut Vec<Session>, entry: &Entry)
@@ -37,6 +47,7 @@ impl MdsState {
     pub(crate) fn enter(&mut self, entry: Entry) -> Result<(), NoMemory>
         requires { MayBuffer self.old entry }
         ensures clients { OnOk result (self.new.clients ≡ self.old.clients) }
+        ensures tenures { OnOk result (self.new.tenures ≡ self.old.tenures) }
         ensures table { OnOk result ((s : Server) (taken : Option Taken) → StandsFor self.old taken s
             → MayFollow s.clients s.entries entry → StandsFor self.new taken (entered s entry)) }
     {
@@ -45,22 +56,37 @@ impl MdsState {
         Ok(())
     }
 
-    /// One more entry, which changes no file's context. It isn't durable.
-    pub fn buffer(&mut self, entry: Entry) -> Result<(), NoMemory>
-        requires may { MayBuffer self.old entry }
-        requires steady { changes_contexts entry.what ≡ false }
+    // One more entry, and each client is told of the files that it holds for Write and whose context that changes.
+    fn enter_telling(&mut self, entry: Entry) -> Result<(), NoMemory>
+        requires { MayBuffer self.old entry }
         ensures clients { OnOk result (self.new.clients ≡ self.old.clients) }
         ensures table { OnOk result ((s : Server) (taken : Option Taken) → StandsFor self.old taken s
             → MayFollow s.clients s.entries entry → StandsFor self.new taken (act s (Buffer entry))) }
     {
+        let kept = self.writers()?;
+        self.enter(entry)?;
+        self.tell_all(&kept)?;
+        Ok(())
+    }
+
+    /// One more entry, which isn't durable. The writers of files whose contexts it changes are told.
+    pub fn buffer(&mut self, entry: Entry) -> Result<(), NoMemory>
+        requires may { MayBuffer self.old entry }
+        ensures clients { OnOk result (self.new.clients ≡ self.old.clients) }
+        ensures table { OnOk result ((s : Server) (taken : Option Taken) → StandsFor self.old taken s
+            → MayFollow s.clients s.entries entry → StandsFor self.new taken (act s (Buffer entry))) }
+    {
+        if changes_contexts(&entry.what) {
+            self.enter_telling(entry)?;
+            return Ok(());
+        }
         self.enter(entry)?;
         Ok(())
     }
 
-    /// The request in hand has its effect, which this entry says; it changes no file's context.
+    /// The request in hand has its effect, which this entry says. The writers of files whose contexts it changes are told.
     pub fn effect(&mut self, entry: Entry) -> Result<(), NoMemory>
         requires may { MayBuffer self.old entry }
-        requires steady { changes_contexts entry.what ≡ false }
         ensures clients { OnOk result (self.new.clients ≡ self.old.clients) }
         ensures table { OnOk result ((s : Server) (a : Taken) (change : Made) → StandsFor self.old (Some a) s
             → MayFollow s.clients s.entries entry → change_in entry.what ≡ Some change → entry ≡ entry_for a entry.what
@@ -83,7 +109,6 @@ impl MdsState {
     /// The request in hand becomes the outstanding operation on the table of snapshots, which this entry prepares.
     pub fn prepare(&mut self, asked: Asked, entry: Entry) -> Result<(), NoMemory>
         requires may { MayBuffer self.old entry }
-        requires steady { changes_contexts entry.what ≡ false }
         ensures clients { OnOk result (self.new.clients ≡ self.old.clients) }
         ensures table { OnOk result ((s : Server) → StandsFor self.old (Some asked) s
             → MayFollow s.clients s.entries entry → entry ≡ entry_for asked entry.what

@@ -160,12 +160,8 @@ fn push_effect(effects: &mut Vec<Effect>, number: u64, entry: Entry) -> Result<(
     Ok(())
 }
 
-// The effects of entries that become durable behind so many.
-pub(crate) fn effects_of(
-    alloc: Global,
-    durable: u64,
-    entries: Vec<Entry>,
-) -> Result<Effects, NoMemory>
+/// The effects of entries that become durable behind so many. It fails only with `NoMemory`.
+pub fn effects_of(alloc: Global, durable: u64, entries: Vec<Entry>) -> Result<Effects, NoMemory>
     ensures { IfOk result (λ effects. effects ≡ effects_from (durable + 1) entries.items) }
 {
     let mut effects = Vec::new(alloc);

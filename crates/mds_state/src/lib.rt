@@ -3,11 +3,13 @@
 #![tactic(auto)]
 
 mod asked;
+mod background;
 mod buffering;
 mod change;
 mod holders;
 mod links;
 mod looks;
+mod notices;
 mod rows;
 mod state;
 mod telling;
@@ -16,8 +18,6 @@ mod waiting;
 mod written;
 
 pub use asked::Asked;
+pub use change::effects_of;
 pub use state::MdsState;
 pub use tenures::Given;
-
-#[cfg(test)]
-mod tests;

@@ -1,5 +1,5 @@
 // What is asked of the tree, of the table of snapshots and of the journal.
-ghost use Rattle.std.specs.Prelude.{◌≡◌, length, Option, None, Some, Ok, Err, IfOk};
+ghost use Rattle.std.specs.Prelude.{◌≡◌, ◌&&◌, false, true, length, Option, None, Some, Ok, Err, IfOk};
 ghost use Rattle.snap_ids.specs.declared.id.SnapId.{SnapId as Id};
 ghost use Rattle.snap_ids.specs.Context.{is_listed};
 ghost use Rattle.plain_types.specs.declared.answer.Answer.TheVariants.{Refused};
@@ -7,8 +7,9 @@ ghost use Rattle.plain_types.specs.declared.answer.Refusal.{Refusal as Reason};
 ghost use Rattle.plain_types.specs.declared.change.Change.{Change as Made};
 ghost use Rattle.plain_tree.specs.Request.{change_asked};
 ghost use Rattle.plain_journal.specs.Answers.{answer_to};
-ghost use Rattle.plain_journal.specs.Coverage.{covering};
-ghost use Rattle.plain_journal.specs.Entries.{state_after};
+ghost use Rattle.plain_journal.specs.Coverage.{covering, is_purged};
+ghost use Rattle.plain_journal.specs.Entries.{applied, state_after};
+ghost use Rattle.plain_journal.specs.Legal.{is_made_file};
 ghost use Rattle.plain_journal.specs.Table as journal;
 ghost use Rattle.meta_state.specs.Decisions.{IsAnswer, IsLegal, IsPut, query_of};
 ghost use Rattle.meta_state.specs.Queries.{IsPast};
@@ -26,6 +27,16 @@ use meta_state::Decision;
 use plain_types::{Answer, Query, Request};
 use server_holders::owed_flushes_are_the_tables;
 use snap_ids::{Ino, NoMemory, SnapId};
+
+// The client that owes the flush of a file, where a snapshot with this id covers that and this is its writer.
+fn owed_by(writer: Option<(u8, SnapId)>, id: SnapId) -> Option<u8>
+    ensures { result ≡ owing_by true id writer }
+{
+    match writer {
+        None => None,
+        Some((client, settled)) => { if settled.0 < id.0 { Some(client) } else { None } }
+    }
+}
 
 impl MdsState {
     /// How many entries there are.
@@ -54,6 +65,14 @@ impl MdsState {
         ensures { (s : Server) (taken : Option Taken) → StandsFor self.now taken s → result ≡ requests.next_id s }
     {
         SnapId(self.written.next())
+    }
+
+    /// The id of the last snapshot that was made.
+    pub fn applied(&self) -> SnapId
+        ensures { (s : Server) (taken : Option Taken) → StandsFor self.now taken s
+            → result ≡ record { 0 = applied s.entries } }
+    {
+        self.written.applied()
     }
 
     /// The operation on the table of snapshots that is outstanding, with the number of its entry.
@@ -88,14 +107,46 @@ impl MdsState {
         self.written.barrier()
     }
 
-    /// The client that holds a file for Write, and the id up to which it has flushed. It owes the file's flush for each
-    /// snapshot above that which covers the file.
-    pub fn writer(&self, ino: Ino) -> Option<(u8, SnapId)>
+    // The client that holds a file for Write, and the id up to which it has flushed. It owes the file's flush for each
+    // snapshot above that which covers the file.
+    fn writer(&self, ino: Ino) -> Option<(u8, SnapId)>
         ensures { (s : Server) (taken : Option Taken) (id : Id) → StandsFor self.now taken s
             → owing_by (is_listed id (covering s.entries ino)) id result ≡ capabilities.owing s ino id }
     {
         owed_flushes_are_the_tables();
         self.tenures.writer(ino)
+    }
+
+    // Whether a snapshot that isn't purged covers a file that was made.
+    fn covers(&self, ino: Ino, id: SnapId) -> Result<bool, NoMemory>
+        requires state { IsState self.now }
+        ensures { IfOk result (λ covers. (s : Server) (taken : Option Taken) → StandsFor self.now taken s
+            → is_purged s.entries id ≡ false
+            → covers ≡ (is_made_file (state_after s.entries) ino && is_listed id (covering s.entries ino))) }
+    {
+        if !self.knows_file(ino) {
+            return Ok(false);
+        }
+        let seen = self.context(ino)?;
+        Ok(seen.knows(id))
+    }
+
+    /// The client that owes a file's flush for a snapshot that isn't purged.
+    pub fn owing(&self, ino: Ino, id: SnapId) -> Result<Option<u8>, NoMemory>
+        requires state { IsState self.now }
+        ensures { IfOk result (λ owes. (s : Server) (taken : Option Taken) → StandsFor self.now taken s
+            → is_purged s.entries id ≡ false → owes ≡ capabilities.owing s ino id) }
+    {
+        match owed_by(self.writer(ino), id) {
+            None => Ok(None),
+            Some(client) => {
+                if self.covers(ino, id)? {
+                    Ok(Some(client))
+                } else {
+                    Ok(None)
+                }
+            }
+        }
     }
 
     /// What a client's request comes to: the entry of a change that is made, under the request's number, or the answer. A

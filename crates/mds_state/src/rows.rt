@@ -1,12 +1,13 @@
 // What a step gives: messages that needn't wait, and effects.
-ghost use Rattle.std.specs.Prelude.{◌≡◌, ◌++◌, [], length, map, take, None, Option, IfOk, OnOk};
+ghost use Rattle.std.specs.Prelude.{◌≡◌, ◌++◌, [], length, map, take, None, Option, IfOk, OnOk, true};
+ghost use Rattle.std.specs.List.{list_all};
 ghost use Rattle.plain_types.specs.declared.history.Sent.{Sent as Letter};
 ghost use Rattle.step_table.specs.Acts as acts;
 ghost use Rattle.step_table.specs.Acts.{goes, waits};
 ghost use Rattle.step_table.specs.Messages.{plain_sent};
 ghost use Rattle.step_table.specs.ServerRows.{left_with, takes_effect};
 ghost use Rattle.step_table.specs.ServerState.{Asked as Taken, Server};
-ghost use Rattle.mds_state.specs.Stands.{AllFollow, StandsFor};
+ghost use Rattle.mds_state.specs.Stands.{AllFollow, StandsFor, sent_traces_fit};
 
 use crate::state::MdsState;
 use plain_types::{Effects, EntryList, Sending, Sent};
@@ -39,6 +40,8 @@ impl MdsState {
         ensures clients { OnOk result (self.new.clients ≡ self.old.clients) }
         ensures sent { IfOk result (λ sent. (s : Server) (taken : Option Taken) → StandsFor self.old taken s
             → map plain_sent sent ≡ (acts.hand_out s).sent) }
+        ensures traces { IfOk result (λ sent. (s : Server) (taken : Option Taken) → StandsFor self.old taken s
+            → list_all sent_traces_fit sent ≡ true) }
         ensures table { OnOk result ((s : Server) (taken : Option Taken) → StandsFor self.old taken s
             → StandsFor self.new None (acts.hand_out s).state) }
     {

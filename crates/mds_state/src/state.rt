@@ -1,11 +1,11 @@
 // The state of a metadata server.
-ghost use Rattle.std.specs.Prelude.{◌≡◌, [], None, Option, IfOk, OnOk, replicate};
+ghost use Rattle.std.specs.Prelude.{◌≡◌, [], None, Option, IfOk, OnOk, replicate, true};
 ghost use Rattle.plain_types.specs.declared.history.Sent.{Sent as Letter};
 ghost use Rattle.session_link.specs.Sessions.{first};
 ghost use Rattle.server_sessions.specs.Calls.{lost};
 ghost use Rattle.step_table.specs.Messages.{plain_sent};
 ghost use Rattle.step_table.specs.ServerState.{Asked as Taken, Server, new_server, send};
-ghost use Rattle.mds_state.specs.Stands.{StandsFor, bare};
+ghost use Rattle.mds_state.specs.Stands.{StandsFor, bare, traces_fit};
 
 use crate::asked::Asked;
 use crate::tenures::Tenures;
@@ -152,6 +152,7 @@ impl MdsState {
 
     // Makes a message. It waits until all entries of its time are durable.
     pub(crate) fn send(&mut self, to: u8, message: Message) -> Result<(), NoMemory>
+        requires { traces_fit message ≡ true }
         ensures sent { OnOk result ((s : Server) (taken : Option Taken) (letter : Letter) → StandsFor self.old taken s
             → plain_sent (record { to = to; message = message }) ≡ letter → StandsFor self.new taken (send s letter)) }
         ensures clients { OnOk result (self.new.clients ≡ self.old.clients) }

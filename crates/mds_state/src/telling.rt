@@ -7,7 +7,7 @@ ghost use Rattle.plain_journal.specs.Legal.{is_made_file};
 ghost use Rattle.plain_journal.specs.Settled.{settled_size};
 ghost use Rattle.step_table.specs.Acts.{act, acts, AnswerIt, GrantIt, MarkRecalled, TellAck, TellRecall, TellRestart, SendPurge, SendDelete};
 ghost use Rattle.step_table.specs.Capabilities as capabilities;
-ghost use Rattle.step_table.specs.Messages.{plain_trace};
+ghost use Rattle.step_table.specs.Messages.{plain_trace, trace_fits};
 ghost use Rattle.step_table.specs.ServerState.{Answered, Asked as Taken, Granted, Server, stamp, tell, trace_of};
 ghost use Rattle.mds_state.specs.Looks.{HasFile};
 ghost use Rattle.mds_state.specs.Noted.{delete_noted, purge_noted};
@@ -21,7 +21,7 @@ use snap_ids::{Ino, Mode, NoMemory, SnapContext, SnapId};
 
 impl MdsState {
     // The stamp of a message that is made now.
-    fn stamp(&self) -> Stamp
+    pub(crate) fn stamp(&self) -> Stamp
         ensures { (s : Server) (taken : Option Taken) → StandsFor self.now taken s → result ≡ stamp s }
     {
         self.written.stamp()
@@ -170,16 +170,17 @@ impl MdsState {
     }
 
     // A file with the realms that contain it.
-    fn file_trace(&self, ino: Ino) -> Result<FileTrace, NoMemory>
+    pub(crate) fn file_trace(&self, ino: Ino) -> Result<FileTrace, NoMemory>
         requires { HasFile self.now.written ino }
-        ensures { IfOk result (λ file. (s : Server) (taken : Option Taken) → StandsFor self.now taken s
+        ensures told { IfOk result (λ file. (s : Server) (taken : Option Taken) → StandsFor self.now taken s
             → is_made_file (state_after s.entries) ino ≡ true → plain_trace file ≡ trace_of s ino) }
+        ensures fits { IfOk result (λ file. trace_fits file ≡ true) }
     {
         self.written.file_trace(ino)
     }
 
     // A file's context.
-    fn context(&self, ino: Ino) -> Result<SnapContext, NoMemory>
+    pub(crate) fn context(&self, ino: Ino) -> Result<SnapContext, NoMemory>
         requires { HasFile self.now.written ino }
         ensures { IfOk result (λ seen. (s : Server) (taken : Option Taken) → StandsFor self.now taken s
             → is_made_file (state_after s.entries) ino ≡ true → seen ≡ context s.entries ino) }

@@ -6,9 +6,9 @@ ghost use Rattle.plain_journal.specs.Coverage.{context};
 ghost use Rattle.plain_journal.specs.Entries.{applied, state_after};
 ghost use Rattle.plain_journal.specs.Legal.{is_made_file};
 ghost use Rattle.plain_journal.specs.Settled.{settled_size};
-ghost use Rattle.plain_journal.specs.Table.{barrier, effects_from};
+ghost use Rattle.plain_journal.specs.Table.{barrier, dead, effects_from};
 ghost use Rattle.journal_table.specs.Calls.{called, CanCall};
-ghost use Rattle.step_table.specs.Messages.{plain_trace, trace_with};
+ghost use Rattle.step_table.specs.Messages.{plain_trace, trace_fits, trace_with};
 ghost use Rattle.mds_state.specs.Looks.{HasFile, is_file_in, size_in};
 ghost use Rattle.mds_state.specs.Stands.{WrittenStands, MayEnter};
 ghost use Rattle.mds_state.specs.Written.{Entered};
@@ -187,9 +187,10 @@ impl Written {
     // A file with the realms that contain it.
     pub(crate) fn file_trace(&self, ino: Ino) -> Result<FileTrace, NoMemory>
         requires { HasFile self.now ino }
-        ensures { IfOk result (λ file. (clients : ℕ) (entries : List Line) (done : ℕ)
+        ensures told { IfOk result (λ file. (clients : ℕ) (entries : List Line) (done : ℕ)
             → WrittenStands self.now clients entries done → is_made_file (state_after entries) ino ≡ true
             → plain_trace file ≡ trace_with ino (context entries ino)) }
+        ensures fits { IfOk result (λ file. trace_fits file ≡ true) }
     {
         let realms = self.tree.realms();
         let birth = realms.birth_of(ino);
@@ -238,6 +239,37 @@ impl Written {
         ensures { result.now ≡ self.now.buffered }
     {
         &self.buffered
+    }
+
+    // The table of snapshots.
+    pub(crate) fn table(&self) -> &SnapTable
+        ensures { result.now ≡ self.now.table }
+    {
+        &self.table
+    }
+
+    // The ids that buffered entries remove.
+    pub(crate) fn removing(&self) -> &[SnapId]
+        ensures { result.now ≡ self.now.removing }
+    {
+        &self.removing
+    }
+
+    // The files without name and handle that the store hasn't dropped.
+    pub(crate) fn dead_files(&self) -> &[Ino]
+        ensures { (clients : ℕ) (entries : List Line) (done : ℕ) → WrittenStands self.now clients entries done
+            → result.now ≡ dead entries }
+    {
+        self.tree.dead_files()
+    }
+
+    // The sequence id of a file's context.
+    pub(crate) fn seq(&self, ino: Ino) -> SnapId
+        requires { HasFile self.now ino }
+        ensures { (clients : ℕ) (entries : List Line) (done : ℕ) → WrittenStands self.now clients entries done
+            → is_made_file (state_after entries) ino ≡ true → result ≡ (context entries ino).seq }
+    {
+        self.tree.realms().seq_of(ino)
     }
 
     // One more entry.

@@ -11,7 +11,7 @@ note_in-requires c =
     let now = subst (λ (p : Parts). StandsFor p is.taken is.state) (sym c.self.view_is) is.stands in
     record {
       upto = omega (arith, is.may.whose.0, c.self.invariant, now.clients);
-      flush = flush_above _ is.taken is.state c.args.entry now is.may.whose is.flush;
+      flush = flush_above _ is.taken is.state c.args.entry now is.may.whose is.may.rises;
     }
 
 pub enter-requires : goal.enter-requires

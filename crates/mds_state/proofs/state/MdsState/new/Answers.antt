@@ -1,6 +1,7 @@
 use Rattle.std.proofs.Common.{[], map, refl, ap, subst, sym, ◌∙◌}
+use Rattle.std.specs.List.{list_all}
 use Rattle.mds_state.specs.Parts.{TenureParts, marks_in}
-use Rattle.mds_state.specs.Stands.{plain_mail, TenuresStand}
+use Rattle.mds_state.specs.Stands.{letter_traces_fit, plain_mail, TenuresStand}
 use Rattle.mds_state.proofs.state.MdsState.new.Goals as goal
 
 pub returns-clause-table : goal.returns-clause-table
@@ -13,6 +14,7 @@ returns-clause-table c =
       tenures = subst (λ (t : TenureParts). TenuresStand t c.args.clients [] []) (sym c.new-2.ensures)
           (record { table = tt; stands = c.no_holders_stand.ensures (marks_in []); alone = tt; theirs = refl; made = refl });
       mail = ap (map plain_mail) c.new-3.ensures.items;
+      traces = ap (list_all letter_traces_fit) c.new-3.ensures.items;
       hand = refl;
       held = c.new-4.ensures.items;
       deferred = c.new-5.ensures.items;

@@ -3,7 +3,7 @@ use Rattle.mds_state.proofs.Quiet.{prepares}
 use Rattle.mds_state.proofs.state.MdsState.prepare.Goals as goal
 
 pub buffer-requires : goal.buffer-requires
-buffer-requires c = record { may = c.set_operation.ensures.may c.args.entry c.requires.may; steady = c.requires.steady }
+buffer-requires c = record { may = c.set_operation.ensures.may c.args.entry c.requires.may }
 
 pub returns-clause-table : goal.returns-clause-table
 returns-clause-table c = λ s stands may own.

@@ -19,14 +19,14 @@ loop-entry-init c =
 pub enter-requires : goal.enter-requires
 enter-requires c =
     let follow = subst (AllFollow c.args.clients c.loop-entry.yielded) c.in-Some.ensures.steps.0 c.loop-entry.invariant.follow in
-    record { taken = None; state = bare c.args.clients c.loop-entry.yielded []; stands = c.loop-entry.invariant.stands; may = follow.0; flush = follow.1 }
+    record { taken = None; state = bare c.args.clients c.loop-entry.yielded []; stands = c.loop-entry.invariant.stands; may = follow.0 }
 
 pub loop-entry-preserved : goal.loop-entry-preserved
 loop-entry-preserved c =
     let follow = subst (AllFollow c.args.clients c.loop-entry.yielded) c.in-Some.ensures.steps.0 c.loop-entry.invariant.follow in
     record {
       stands = c.in_ok-enter.ensures.table (bare c.args.clients c.loop-entry.yielded []) None c.loop-entry.invariant.stands follow.0;
-      follow = follow.2;
+      follow = follow.1;
       whole =
           append_assoc c.loop-entry.yielded (c.in-Some.entry ∷ []) c.next.new.self.rest.items
           ∙ ap (λ (items : List Entry). c.loop-entry.yielded ++ items) (sym c.in-Some.ensures.steps.0)

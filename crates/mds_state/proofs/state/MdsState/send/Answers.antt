@@ -8,4 +8,4 @@ pub returns-clause-sent : goal.returns-clause-sent
 returns-clause-sent c = λ s taken letter stands plain.
     let now = subst (λ (p : Parts). StandsFor p taken s) (sym c.self.view_is) stands in
     rw c.in_ok-push_back.ensures.items
-    (mailed _ taken s c.entries-number.result _ letter now (c.entries-number.ensures s.clients s.entries s.durable now.written) plain)
+    (mailed _ taken s c.entries-number.result _ letter now (c.entries-number.ensures s.clients s.entries s.durable now.written) plain c.requires)

@@ -14,4 +14,4 @@ pub returns-in_ok-send-in-Some-clause-table : goal.returns-in_ok-send-in-Some-cl
 returns-in_ok-send-in-Some-clause-table c = λ s taken stands file.
     tells c.send.new.self taken s c.args.client (Granted c.args.tid c.args.ino c.args.mode) c.in-Some.conn (sym (c.number.ensures s taken stands) ∙ c.in-Some.is)
     (c.in_ok-send-in-Some.ensures.sent s taken _ stands
-    (λ i. let sent : Sent = record { to = c.args.client; message = message.ToClient (told.Grant c.in-Some.conn c.args.tid (c.stamp-stamp.ensures s taken stands i) c.args.ino c.args.mode (c.size-size.ensures s taken stands i) (c.in_ok-file-in-Some.ensures s taken stands file i)) } in sent))
+    (λ i. let sent : Sent = record { to = c.args.client; message = message.ToClient (told.Grant c.in-Some.conn c.args.tid (c.stamp-stamp.ensures s taken stands i) c.args.ino c.args.mode (c.size-size.ensures s taken stands i) (c.in_ok-file-in-Some.ensures.told s taken stands file i)) } in sent))
