@@ -5,15 +5,13 @@ ghost use Rattle.step_table.specs.Background.{barrier_of, is_number};
 use plain_types::Request;
 use std::marker::Model;
 
-/// A request as the server took it. Contracts see the record that the protocol's table has.
+/// A request as the server took it: whose it is, its number among the client's, and what is asked. Contracts see the record
+/// that the protocol's table has.
 #[derive(Debug, Drop)]
 pub struct Asked {
-    /// The client that asks, from 1.
-    pub client: u8,
-    /// The request's number among the client's.
-    pub tid: u64,
-    /// What it asks.
-    pub request: Request,
+    pub(crate) client: u8,
+    pub(crate) tid: u64,
+    pub(crate) request: Request,
 }
 
 impl Model for Asked {
@@ -25,6 +23,38 @@ impl Model for Asked {
 }
 
 impl Asked {
+    /// A client's request of this number.
+    pub fn new(client: u8, tid: u64, request: Request) -> Asked
+        ensures { result ≡ record { client = client; tid = tid; request = request } }
+    {
+        Asked {
+            client,
+            tid,
+            request,
+        }
+    }
+
+    /// Whose request it is.
+    pub fn client(&self) -> u8
+        ensures { result ≡ self.now.client }
+    {
+        self.client
+    }
+
+    /// Its number among the client's requests.
+    pub fn tid(&self) -> u64
+        ensures { result ≡ self.now.tid }
+    {
+        self.tid
+    }
+
+    /// What is asked.
+    pub fn request(&self) -> &Request
+        ensures { result.now ≡ self.now.request }
+    {
+        &self.request
+    }
+
     /// The number of the barrier at which it waits, where it asks for one.
     pub fn barrier(&self) -> Option<u64>
         ensures { result ≡ barrier_of self.now.request }

@@ -21,7 +21,7 @@ pub record IsFit (s : Server) (a : Asked) : Type 0 where
   pub upto : a.client ≤ s.clients
   pub known : knows_asked s a.request ≡ true
 
--- the requests that wait do
+-- each request that waits is of one of the clients, and a file that it names was made
 pub record WaitingFit (s : Server) : Type 0 where
   pub held : AllByRecursion (IsFit s) s.held
   pub deferred : AllByRecursion (IsFit s) s.deferred
@@ -42,7 +42,7 @@ pub record IsSound (p : Parts) : Type 0 where
   pub stands : Stands p state
   pub fit : WaitingFit state
 
--- the same with this request in hand, which fits
+-- the parts stand for a state with this request in hand, which fits, as the requests that wait do
 pub record MayTreat (p : Parts) (a : Asked) : Type 0 where
   pub state : Server
   pub stands : StandsFor p (Some a) state

@@ -5,7 +5,6 @@ pub mod Tenures
 pub mod Written
 pub mod Looks
 pub mod Noted
-pub mod Waits
 pub mod Writers
 pub mod Changed
 pub mod Acted

@@ -10,9 +10,9 @@ ghost use Rattle.step_table.specs.Acts.{act, entry_for, Buffer, MakeEffect, Prep
 ghost use Rattle.step_table.specs.ServerState.{Asked as Taken, Server};
 ghost use Rattle.mds_state.specs.Stands.{MayBuffer, MayFollow, StandsFor, entered};
 
-use crate::asked::Asked;
 use crate::change::note;
 use crate::state::MdsState;
+use held_requests::Asked;
 use plain_types::{Entry, What};
 use server_sessions::calls_are_fine;
 use session_link::Session;

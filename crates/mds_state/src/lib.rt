@@ -2,7 +2,6 @@
 //! which its rules are made. Ceph developer guide, CephFS Snapshots.
 #![tactic(auto)]
 
-mod asked;
 mod background;
 mod buffering;
 mod change;
@@ -17,7 +16,7 @@ mod tenures;
 mod waiting;
 mod written;
 
-pub use asked::Asked;
 pub use change::effects_of;
+pub use held_requests::Asked;
 pub use state::MdsState;
 pub use tenures::Given;

@@ -9,9 +9,8 @@ ghost use Rattle.step_table.specs.ServerState as table;
 ghost use Rattle.step_table.specs.ServerState.{Asked as Taken, Server};
 ghost use Rattle.mds_state.specs.Stands.{StandsFor};
 
-use crate::asked::Asked;
 use crate::state::MdsState;
-use crate::waiting::drop_of;
+use held_requests::Asked;
 use plain_types::Answer;
 use session_link::Session;
 
@@ -143,7 +142,7 @@ impl MdsState {
             → StandsFor self.new taken (flushes.connected s client conn) }
     {
         connect_in(&mut self.sessions, client, conn);
-        drop_of(&mut self.held, client);
-        drop_of(&mut self.deferred, client);
+        self.held.drop_of(client);
+        self.deferred.drop_of(client);
     }
 }

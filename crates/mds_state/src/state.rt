@@ -7,9 +7,9 @@ ghost use Rattle.step_table.specs.Messages.{plain_sent};
 ghost use Rattle.step_table.specs.ServerState.{Asked as Taken, Server, new_server, send};
 ghost use Rattle.mds_state.specs.Stands.{StandsFor, bare, traces_fit};
 
-use crate::asked::Asked;
 use crate::tenures::Tenures;
 use crate::written::Written;
+use held_requests::{Asked, Waiting};
 use plain_types::{Inos, Message, Sent};
 use server_holders::no_holders_stand;
 use server_sessions::{first_sessions_stand, sessions_are_found_again};
@@ -31,8 +31,8 @@ pub struct MdsState {
     pub(crate) sessions: Vec<Session>,
     pub(crate) tenures: Tenures,
     pub(crate) mail: VecDeque<(u64, Sent)>,
-    pub(crate) held: VecDeque<Asked>,
-    pub(crate) deferred: VecDeque<Asked>,
+    pub(crate) held: Waiting,
+    pub(crate) deferred: Waiting,
     pub(crate) operation: Option<Asked>,
     pub(crate) purging: Vec<SnapId>,
     pub(crate) deleting: Inos,
@@ -50,8 +50,8 @@ impl Model for MdsState {
       sessions = state.sessions.items;
       tenures = state.tenures;
       mail = state.mail.items;
-      held = state.held.items;
-      deferred = state.deferred.items;
+      held = state.held;
+      deferred = state.deferred;
       operation = state.operation;
       purging = state.purging.items;
       deleting = state.deleting;
@@ -111,8 +111,8 @@ impl MdsState {
             sessions,
             tenures: Tenures::new(alloc),
             mail: VecDeque::new(alloc),
-            held: VecDeque::new(alloc),
-            deferred: VecDeque::new(alloc),
+            held: Waiting::new(alloc),
+            deferred: Waiting::new(alloc),
             operation: None,
             purging: Vec::new(alloc),
             deleting: Inos::new(alloc),
@@ -134,8 +134,8 @@ impl MdsState {
             sessions,
             tenures: Tenures::new(alloc),
             mail: VecDeque::new(alloc),
-            held: VecDeque::new(alloc),
-            deferred: VecDeque::new(alloc),
+            held: Waiting::new(alloc),
+            deferred: Waiting::new(alloc),
             operation: None,
             purging: Vec::new(alloc),
             deleting: Inos::new(alloc),

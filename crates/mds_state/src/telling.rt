@@ -13,8 +13,8 @@ ghost use Rattle.mds_state.specs.Looks.{HasFile};
 ghost use Rattle.mds_state.specs.Noted.{delete_noted, purge_noted};
 ghost use Rattle.mds_state.specs.Stands.{StandsFor};
 
-use crate::asked::Asked;
 use crate::state::MdsState;
+use held_requests::Asked;
 use plain_types::{Answer, FileTrace, Message, Stamp, ToClient, ToStore};
 use server_holders::a_recall_is_marked;
 use snap_ids::{Ino, Mode, NoMemory, SnapContext, SnapId};

@@ -6,4 +6,4 @@ use Rattle.mds_state.proofs.state.MdsState.defer.Goals as goal
 
 pub returns-clause-table : goal.returns-clause-table
 returns-clause-table c = λ s stands.
-    rw c.in_ok-push_back.ensures.items (defers _ c.args.asked s (subst (λ (p : Parts). StandsFor p (Some c.args.asked) s) (sym c.self.view_is) stands))
+    rw c.in_ok-push_back.ensures.waits (defers _ c.args.asked s (subst (λ (p : Parts). StandsFor p (Some c.args.asked) s) (sym c.self.view_is) stands))

@@ -6,4 +6,4 @@ use Rattle.mds_state.proofs.state.MdsState.defer_first.Goals as goal
 
 pub returns-clause-table : goal.returns-clause-table
 returns-clause-table c = λ s stands.
-    rw c.in_ok-push_front.ensures.items (defers_first _ c.args.asked s (subst (λ (p : Parts). StandsFor p (Some c.args.asked) s) (sym c.self.view_is) stands))
+    rw c.in_ok-push_front.ensures.waits (defers_first _ c.args.asked s (subst (λ (p : Parts). StandsFor p (Some c.args.asked) s) (sym c.self.view_is) stands))
