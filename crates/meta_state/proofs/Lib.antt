@@ -4,10 +4,7 @@ mod Counted
 mod Decides
 mod Finds
 mod Fits
-mod Flushed
 mod Looked
-mod Fronts
-mod Ids
 mod Lives
 mod May
 mod Names

@@ -10,10 +10,3 @@ mod state;
 pub use decide::Decision;
 pub use find::Found;
 pub use state::MetaState;
-
-#[cfg(test)]
-mod answer_tests;
-#[cfg(test)]
-mod decide_tests;
-#[cfg(test)]
-mod tests;

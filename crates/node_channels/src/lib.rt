@@ -14,6 +14,3 @@ pub use laws::{
     empty_channels_are_empty_in_the_table, traces_count_by_their_contexts,
     what_is_sent_is_delivered, what_is_sent_is_what_the_table_sends,
 };
-
-#[cfg(test)]
-mod tests;

@@ -12,6 +12,3 @@ mod store;
 
 pub use error::StoreError;
 pub use store::ObjectStore;
-
-#[cfg(test)]
-mod tests;

@@ -14,6 +14,3 @@ mod summary;
 pub use form::{Form, write_text};
 pub use laws::small_texts;
 pub use number::push_number;
-
-#[cfg(test)]
-mod tests;

@@ -19,6 +19,3 @@ pub use outcome::{End, Outcome};
 pub use parser::parse;
 pub use places::number_at;
 pub use seeded::load;
-
-#[cfg(test)]
-mod tests;

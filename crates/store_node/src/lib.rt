@@ -7,6 +7,3 @@ mod serve;
 mod store;
 
 pub use store::Store;
-
-#[cfg(test)]
-mod tests;

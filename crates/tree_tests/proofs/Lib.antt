@@ -1,0 +1,3 @@
+mod Flushed
+mod Fronts
+mod Ids
