@@ -1,0 +1,6 @@
+mod Known
+mod Seen
+mod Marks
+mod Changed
+mod Linked
+mod Rows

@@ -1,0 +1,6 @@
+use Rattle.std.proofs.Common.{ap}
+use Rattle.step_table.specs.ClientState.{Client}
+use Rattle.client_state.proofs.state.ClientState.begun.Goals as goal
+
+pub returns : goal.returns
+returns c = ap (λ (s : Client). s.begun) c.self.view_is
