@@ -1,0 +1,5 @@
+pub mod Acting
+pub mod Recalled
+pub mod Given
+pub mod Seen
+pub mod Asked

@@ -1,0 +1,4 @@
+pub mod Others
+pub mod Queries
+pub mod Sights
+pub mod Treated

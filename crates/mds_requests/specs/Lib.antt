@@ -1,0 +1,5 @@
+pub mod Passes
+pub mod Ready
+pub mod Turns
+pub mod Rounds
+pub mod Asking
