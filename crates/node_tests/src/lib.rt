@@ -2,4 +2,6 @@
 #![tactic(auto)]
 
 #[cfg(test)]
+mod server_flushes;
+#[cfg(test)]
 mod server_state;
